@@ -1,0 +1,24 @@
+// Where lines go.
+ghost use Rattle.std.specs.Prelude.{◌≡◌, ◌||◌, List, ℕ, Bool, Option, nat_lt};
+ghost use Rattle.chisel_outside.specs.Outside.{Bytes, Puts};
+
+#[derive(Clone, Copy, Debug, PartialEq, Eq)]
+pub enum Put {
+    All,
+    Failed,
+}
+
+pub trait Sink {
+    /// What stands in the sink, where it is told.
+    ghost written: { Self → Option Bytes };
+
+    /// How often a put failed.
+    ghost faults: { Self → ℕ };
+
+    /// Whether a put came after one that failed.
+    ghost late: { Self → Bool };
+
+    fn put(&mut self, piece: &[u8]) -> Put
+        ensures puts { Puts (written self.old) (written self.new) piece.now (faults self.old) (faults self.new) result }
+        ensures late { late self.new ≡ (late self.old || nat_lt 0 (faults self.old)) };
+}
