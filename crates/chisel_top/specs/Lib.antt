@@ -1,0 +1,2 @@
+pub mod FirstKernel
+pub mod FirstSource

@@ -1,0 +1,4 @@
+//! The first path's own reading: a function of one `return` whose value has at most one operator. It goes when `verify`
+//! reads the whole language.
+
+pub(crate) mod source;

@@ -1,0 +1,4 @@
+//! The whole program over a shelf and a sink.
+#![tactic(auto)]
+
+mod first;
