@@ -1,3 +1,4 @@
+//! The words of a command line.
 ghost use Rattle.std.specs.Prelude.{◌≡◌, string_bytes};
 
 use std::marker::Model;
@@ -17,12 +18,14 @@ impl Model for Arg {
 }
 
 impl Arg {
+    /// Keeps the word. It takes no memory.
     pub fn from_string(s: String) -> Arg
         ensures { result ≡ string_bytes s }
     {
         Arg { text: s }
     }
 
+    /// Lends the word.
     pub fn as_str(&self) -> &str
         ensures { result.now ≡ self.now }
     {

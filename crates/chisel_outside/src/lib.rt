@@ -1,18 +1,22 @@
 //! Where files come from, and where lines go.
 //!
-//! A shelf gives files by name, a sink takes pieces of text. Both are in memory for tests and over the system in the
-//! program; the layer above learns from the log and from the count of faults what failed.
+//! A [`Shelf`] gives files by name, a [`Sink`] takes pieces of text. Each stands in memory, for tests, and over the
+//! system, for the program. The layer above learns what failed from the log and from the count of faults.
 #![tactic(auto)]
 
 mod arg;
-mod host;
+mod host_shelf;
+mod host_sink;
 mod mem_shelf;
 mod mem_sink;
 mod shelf;
 mod sink;
+#[cfg(test)]
+mod tests;
 
 pub use arg::Arg;
-pub use host::{HostShelf, HostSink};
+pub use host_shelf::HostShelf;
+pub use host_sink::HostSink;
 pub use mem_shelf::MemShelf;
 pub use mem_sink::MemSink;
 pub use shelf::{Fetched, Shelf};

@@ -1,14 +1,14 @@
-// A shelf in memory, which fails where it is told to.
-ghost use Rattle.std.specs.Prelude.{◌≡◌, ◌⊎◌, ◌<◌, ◌^◌, [], List, ℕ, Option, Some, None, option_map, length, if◌then◌else◌};
-ghost use Rattle.chisel_outside.specs.Outside.{Bytes, Fetches};
+//! A shelf in memory, which fails where it is told to.
+ghost use Rattle.std.specs.Prelude.{◌≡◌, ◌⊎◌, None, option_map, if◌then◌else◌};
 ghost use Rattle.chisel_outside.specs.Memory.{lookup, given, mark_for};
 
-use rely_num::List;
 use crate::shelf::{Fetched, Shelf};
+use rely_num::List;
 use std::alloc::Global;
 use std::marker::Model;
 
-#[derive(Drop)]
+/// A shelf over files in memory, some of whose fetches fail.
+#[derive(Drop, Debug)]
 pub struct MemShelf {
     files: List<(List<u8>, List<u8>)>,
     failing: List<u64>,
@@ -68,6 +68,8 @@ pub(crate) fn mark_of(fetched: &Fetched) -> Option<bool>
 impl MemShelf {
     ghost use Rattle.std.specs.Prelude.{◌≡◌, []};
 
+    /// `files` are pairs of a name and its bytes. `failing` numbers the fetches that fail, counted from 1 by the log. It
+    /// takes no memory.
     pub fn new(alloc: Global, files: List<(List<u8>, List<u8>)>, failing: List<u64>) -> MemShelf
         ensures { result ≡ record { files = files; failing = failing; log = [] } }
     {
@@ -80,9 +82,9 @@ impl MemShelf {
 }
 
 impl Shelf for MemShelf {
-    ghost use Rattle.std.specs.Prelude.{◌≡◌, ◌⊎◌, ◌<◌, ◌^◌, Some};
+    ghost use Rattle.std.specs.Prelude.{◌≡◌, ◌⊎◌, ◌+◌, ◌<◌, ◌^◌, Some};
     ghost use Rattle.chisel_outside.specs.declared.shelf.Fetched.TheVariants.{Memory};
-    ghost use Rattle.chisel_outside.specs.Outside.{Bytes, Fetches};
+    ghost use Rattle.chisel_outside.specs.Outside.{Bytes, Fetches, failures, faults_of};
     ghost use Rattle.chisel_outside.specs.Memory.{lookup, gives};
 
     ghost held = { λ s name. Some (lookup name s.files) };
@@ -92,9 +94,10 @@ impl Shelf for MemShelf {
     fn fetch(&mut self, alloc: Global, name: &str, limit: usize) -> Fetched
         requires { limit < 2 ^ 32 }
         ensures fetches { Fetches (Some (lookup name.now self.old.files)) name.now limit self.old.log self.new.log result }
+        ensures faults { faults_of self.new.log ≡ faults_of self.old.log + failures result }
         ensures held { (n : Bytes) → Some (lookup n self.new.files) ≡ Some (lookup n self.old.files) }
         ensures exact { (result ≡ Memory) ⊎ (result ≡ gives self.old name.now limit) }
-        ensures failing { self.new.failing ≡ self.old.failing }
+        ensures rest { self.new ≡ record self.old { log = self.new.log } }
     {
         let Ok(kept) = Vec::from_slice(alloc, name.as_bytes()) else {
             return Fetched::Memory;

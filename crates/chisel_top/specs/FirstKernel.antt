@@ -1,11 +1,13 @@
 -- The kernel that a source of the first path means: its names as numbers.
-use Rattle.std.specs.Prelude.{ℕ, Bool, true, false, not, ◌&&◌, List, [], ◌∷◌, map, Option, Some, None, option_and_then, position, find, codes, unwrap_or, if◌then◌else◌}
+use Rattle.std.specs.Prelude.{◌≡◌, ◌≤◌, length, slice_index, ℕ, Bool, true, not, ◌&&◌, List, [], ◌∷◌, map, Option, Some, None, position, find, unwrap_or, if◌then◌else◌}
 use Rattle.rely_num.specs.Ops.{is_op}
 use Rattle.rely_num.specs.Sets.{only, union}
 use Rattle.rely_num.specs.Texts.{Bytes, same_text, is_among}
+use Rattle.rely_num.specs.declared.conj.Conj.{Conj}
 use Rattle.rely_num.specs.declared.span.Span.{Span}
 use Rattle.rely_hard.specs.declared.hardware.Hardware.{Hardware}
 use Rattle.rely_hard.specs.Valid.{exact}
+use Rattle.rely_kernel.specs.declared.kernel.Claim.{Claim}
 use Rattle.rely_kernel.specs.declared.kernel.Ex.{Ex}
 use Rattle.rely_kernel.specs.declared.kernel.Ex.TheVariants as ex
 use Rattle.rely_kernel.specs.declared.kernel.Kernel.{Kernel}
@@ -13,6 +15,11 @@ use Rattle.rely_kernel.specs.declared.kernel.Site.{Site}
 use Rattle.rely_kernel.specs.declared.kernel.Slot.TheVariants.{Named}
 use Rattle.rely_kernel.specs.declared.kernel.StKind.TheVariants as st
 use Rattle.rely_kernel.specs.declared.kernel.Var.{Var}
+use Rattle.rely_kernel.specs.Labels.{labels_of}
+use Rattle.rely_kernel.specs.Machine.{parameters}
+use Rattle.rely_kernel.specs.Setting.{IsClosed, IsOn}
+use Rattle.rely_kernel.specs.Text.{Expr, expr_of}
+use Rattle.rely_kernel.specs.Valid.{IsValid, IsLinked}
 use Rattle.chisel_top.specs.FirstSource.{◌>>=◌}
 use Rattle.chisel_top.specs.declared.first.source.Operand.{Operand}
 use Rattle.chisel_top.specs.declared.first.source.Operand.TheVariants as operand
@@ -89,3 +96,47 @@ linked h s = do
 -- the kernel of the function with that name; none where a name isn't as it must be
 abbrev pub kernel_of : Bytes → Hardware → Source → Option Kernel
 kernel_of function h s = if same_text s.function function && are_distinct (names s.params) then linked h s else None
+
+-- ---- what such a kernel is
+
+-- a number or a read
+abbrev pub IsOperand : Expr → Type 0
+IsOperand (Expr.Num z) = Unit {0}
+IsOperand (Expr.Read v) = Unit {0}
+IsOperand (Expr.Elem a i) = ⊥
+IsOperand (Expr.Bin site x y) = ⊥
+
+-- one of these, or an operator over two of them
+abbrev pub IsSimple : Expr → Type 0
+IsSimple (Expr.Num z) = Unit {0}
+IsSimple (Expr.Read v) = Unit {0}
+IsSimple (Expr.Elem a i) = ⊥
+IsSimple (Expr.Bin site x y) = IsOperand x × IsOperand y
+
+-- the body is one return of that expression
+abbrev pub Returns : Kernel → Ex → Type 0
+Returns k e = (at : Span) × (k.body ≡ record { at = at; what = st.Result e } ∷ [])
+
+-- a kernel that returns such a value at once, whose variables are all parameters, and that calls nothing
+pub record IsOneReturn (k : Kernel) : Type 0 where
+  pub valid : IsValid k
+  pub all_parameters : parameters k ≡ k.vars
+  pub no_calls : k.calls ≡ []
+  pub returned : Ex
+  pub returns : Returns k returned
+  pub simple : IsSimple (expr_of returned)
+
+-- a kernel of one return with one claim, on the result, in which nothing is open, and linked by itself on that hardware
+pub record IsFirst (h : Hardware) (k : Kernel) : Type 0 where
+  pub form : IsOneReturn k
+  pub on : IsOn h k
+  pub closed : IsClosed k
+  pub claim : Claim
+  pub one_claim : k.claims ≡ claim ∷ []
+  pub on_result : claim.target ≡ 63
+  pub alone : IsLinked (record { kernel = k; inner = [] })
+
+-- a count for each label, at most m
+pub record IsCount (k : Kernel) (m : ℕ) (c : Conj) : Type 0 where
+  pub whole : length c.counts ≡ labels_of k
+  pub low : (i : ℕ) → slice_index c.counts i ≤ m

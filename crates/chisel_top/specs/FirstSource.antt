@@ -1,5 +1,7 @@
 -- What a source of the first path says: a function of one return, read from its tokens.
-use Rattle.std.specs.Prelude.{ℕ, zero, suc, ◌^◌, pos, Bool, true, false, List, [], ◌∷◌, length, Option, Some, None, option_and_then, Result, Ok, Err, slice_range, nat_lt, nat_le, ◌||◌, ◌&&◌, if◌then◌else◌}
+use Rattle.std.specs.Prelude.{ℕ, zero, suc, ◌^◌, pos, Bool, true, false, List, [], ◌∷◌, length, Option, Some, None, option_and_then, Result, Ok, Err, ◌≤◌, FitsSigned, slice_range, nat_lt, nat_le, ◌||◌, if◌then◌else◌}
+use Rattle.std.specs.Int.{w64}
+use Rattle.rely_num.specs.Bounds.{S}
 use Rattle.rely_num.specs.Texts.{Bytes}
 use Rattle.rely_num.specs.AttoTexts.{atto_of}
 use Rattle.rely_num.specs.declared.atto.NumFault.{NumFault}
@@ -13,13 +15,13 @@ use Rattle.rely_lexer.specs.declared.token.Word.TheVariants as word
 use Rattle.rely_lexer.specs.contracts.token.TokenKindPartialEq.TheImpl.{ghosts}
 use Rattle.chisel_top.specs.declared.first.source.Operand.{Operand}
 use Rattle.chisel_top.specs.declared.first.source.Operand.TheVariants as operand
-use Rattle.chisel_top.specs.declared.first.source.Operation.{Operation}
 use Rattle.chisel_top.specs.declared.first.source.Param.{Param}
 use Rattle.chisel_top.specs.declared.first.source.Said.{Said}
 use Rattle.chisel_top.specs.declared.first.source.Source.{Source}
 use Rattle.chisel_top.specs.declared.first.source.Value.{Value}
 use Rattle.chisel_top.specs.declared.first.source.Value.TheVariants as value
 
+-- the next step, where the one before it gives something
 infixl 10 ◌>>=◌
 abbrev pub ◌>>=◌ : {A B : Type 0} → Option A → (A → Option B) → Option B
 o >>= f = option_and_then f o
@@ -28,76 +30,85 @@ o >>= f = option_and_then f o
 abbrev pub Read : Type 0 → Type 0
 Read A = List Token → Option (A × List Token)
 
+-- two kinds are the same
 abbrev pub same_kind : TokenKind → TokenKind → Bool
 same_kind = ghosts.eq
 
 -- the bytes of a span, none where it is outside
-abbrev pub bytes_at : Bytes → Span → Bytes
+unfoldable pub bytes_at : Bytes → Span → Bytes
 bytes_at text s = if nat_lt s.to s.from || nat_lt (length text) s.to then [] else slice_range text s.from s.to
 
 -- a token of that kind
-abbrev pub token_at : TokenKind → Read Token
+unfoldable pub token_at : TokenKind → Read Token
 token_at k [] = None
 token_at k (t ∷ ts) = if same_kind t.kind k then Some (t, ts) else None
 
 -- the tokens after one of that kind
-abbrev pub after : TokenKind → List Token → Option (List Token)
+unfoldable pub after : TokenKind → List Token → Option (List Token)
 after k [] = None
 after k (t ∷ ts) = if same_kind t.kind k then Some ts else None
 
-abbrev pub name_at : Bytes → Read Bytes
+-- the bytes of a name
+unfoldable pub name_at : Bytes → Read Bytes
 name_at text toks = do
   t ← token_at kind.Name toks
   Some (bytes_at text t.0.span, t.1)
 
 -- a name behind a token of that kind, where one stands there
-abbrev pub optional_at : TokenKind → Bytes → Read (Option Bytes)
+unfoldable pub optional_at : TokenKind → Bytes → Read (Option Bytes)
 optional_at k text toks = elim (after k toks) [
-    | None ↦ Some (None, toks)
-    | Some rest ↦ name_at text rest >>= λ n. Some (Some n.0, n.1)
-  ]
+  | None ↦ Some (None, toks)
+  | Some rest ↦ name_at text rest >>= λ n. Some (Some n.0, n.1)
+]
 
-abbrev pub param_at : Bytes → Read Param
+-- a name, and its memory where `in` follows
+unfoldable pub param_at : Bytes → Read Param
 param_at text toks = do
   n ← name_at text toks
   m ← optional_at (kind.Word word.In) text n.1
   Some (record { name = n.0; memory = m.0 }, m.1)
 
+-- the list that an item begins: more items where a comma was behind it, or else its end
+abbrev pub item_with : {A : Type 0} → Read (List A) → A → Option (List Token) → Read (List A)
+item_with more x (Some rest) next = more rest >>= λ xs. Some (x ∷ xs.0, xs.1)
+item_with more x None next = after (kind.Mark 41) next >>= λ rest. Some (x ∷ [], rest)
+
 -- at most n items with commas between them, up to the closing bracket
 unfoldable pub items_at : {A : Type 0} → Read A → ℕ → Read (List A)
 items_at item zero toks = None
-items_at item (suc n) toks = item toks >>= λ x. elim (after (kind.Mark 44) x.1) [
-    | Some rest ↦ items_at item n rest >>= λ xs. Some (x.0 ∷ xs.0, xs.1)
-    | None ↦ after (kind.Mark 41) x.1 >>= λ rest. Some (x.0 ∷ [], rest)
-  ]
+items_at item (suc n) toks = item toks >>= λ x. item_with (items_at item n) x.0 (after (kind.Mark 44) x.1) x.1
 
 -- items with commas between them, or none, up to the closing bracket
-abbrev pub list_at : {A : Type 0} → Read A → Read (List A)
+unfoldable pub list_at : {A : Type 0} → Read A → Read (List A)
 list_at item toks = elim (after (kind.Mark 41) toks) [
-    | Some rest ↦ Some ([], rest)
-    | None ↦ items_at item (length toks) toks
-  ]
+  | Some rest ↦ Some ([], rest)
+  | None ↦ items_at item (length toks) toks
+]
 
+-- a number with or without decimals
 abbrev pub is_number : TokenKind → Bool
 is_number (kind.Number n) = true
 is_number kind.Decimal = true
 is_number _ = false
 
+-- the probability, where the text writes one
 abbrev pub bound_of : Result ℕ NumFault → List Token → Option (ℕ × List Token)
 bound_of (Ok n) rest = Some (n, rest)
 bound_of (Err e) rest = None
 
 -- a number that is a probability
-abbrev pub bound_at : Bytes → Read ℕ
+unfoldable pub bound_at : Bytes → Read ℕ
 bound_at text [] = None
 bound_at text (t ∷ ts) = if is_number t.kind then bound_of (atto_of (bytes_at text t.span)) ts else None
 
+-- a signed number of 64 bits, or a name
 abbrev pub operand_of : Bytes → TokenKind → Span → Read Operand
 operand_of text (kind.Number n) span rest = if nat_lt n (2 ^ 63) then Some (operand.Number (pos n), rest) else None
 operand_of text kind.Name span rest = Some (operand.Name (bytes_at text span), rest)
 operand_of text _ span rest = None
 
-abbrev pub operand_at : Bytes → Read Operand
+-- a number or a name
+unfoldable pub operand_at : Bytes → Read Operand
 operand_at text [] = None
 operand_at text (t ∷ ts) = operand_of text t.kind t.span ts
 
@@ -108,28 +119,27 @@ operator_of (kind.Oper op.Sub) = Some op.Sub
 operator_of (kind.Oper op.Mul) = Some op.Mul
 operator_of _ = None
 
-abbrev pub operator_at : List Token → Option Op
+-- an operator, with the tokens after it
+unfoldable pub operator_at : Read Op
 operator_at [] = None
-operator_at (t ∷ ts) = operator_of t.kind
+operator_at (t ∷ ts) = operator_of t.kind >>= λ o. Some (o, ts)
 
-abbrev pub rest_of : List Token → List Token
-rest_of [] = []
-rest_of (t ∷ ts) = ts
-
-abbrev pub operation_at : Bytes → Op → Operand → Read Value
+-- the kind behind an operator, where a point stands there, and its right operand
+unfoldable pub operation_at : Bytes → Op → Operand → Read Value
 operation_at text o left toks = do
   k ← optional_at (kind.Mark 46) text toks
   right ← operand_at text k.1
   Some (value.Operated (record { op = o; kind = k.0; left = left; right = right.0 }), right.1)
 
-abbrev pub value_at : Bytes → Read Value
+-- an operand, or two with an operator between them
+unfoldable pub value_at : Bytes → Read Value
 value_at text toks = operand_at text toks >>= λ left. elim (operator_at left.1) [
-    | None ↦ Some (value.Plain left.0, left.1)
-    | Some o ↦ operation_at text o left.0 (rest_of left.1)
-  ]
+  | None ↦ Some (value.Plain left.0, left.1)
+  | Some o ↦ operation_at text o.0 left.0 o.1
+]
 
 -- fn NAME ( parameters )
-abbrev pub head_at : Bytes → Read (Token × List Param)
+unfoldable pub head_at : Bytes → Read (Token × List Param)
 head_at text toks = do
   rest ← after (kind.Word word.Fn) toks
   name ← token_at kind.Name rest
@@ -138,7 +148,7 @@ head_at text toks = do
   Some ((name.0, params.0), params.1)
 
 -- claim result >= BOUND * R ( names )
-abbrev pub claim_at : Bytes → Read Said
+unfoldable pub claim_at : Bytes → Read Said
 claim_at text toks = do
   rest ← after (kind.Word word.Claim) toks
   rest ← after (kind.Word word.Result) rest
@@ -151,7 +161,7 @@ claim_at text toks = do
   Some (record { bound = bound.0; needs = needs.0 }, needs.1)
 
 -- { return value ; }
-abbrev pub body_at : Bytes → Read (Token × Value)
+unfoldable pub body_at : Bytes → Read (Token × Value)
 body_at text toks = do
   rest ← after (kind.Mark 123) toks
   first ← token_at (kind.Word word.Return) rest
@@ -161,12 +171,12 @@ body_at text toks = do
   Some ((first.0, value.0), rest)
 
 -- nothing stands after it, and it has at most 63 parameters
-abbrev pub whole : Source → List Token → Option Source
+unfoldable pub whole : Source → List Token → Option Source
 whole s [] = if nat_le (length s.params) 63 then Some s else None
 whole s (t ∷ ts) = None
 
 -- what the tokens of the text say
-abbrev pub source_of : Bytes → List Token → Option Source
+unfoldable pub source_of : Bytes → List Token → Option Source
 source_of text toks = do
   head ← head_at text toks
   claim ← claim_at text head.1
@@ -179,3 +189,19 @@ source_of text toks = do
     at = body.0.0.span;
     value = body.0.1;
   }) body.1
+
+-- a number is a signed one of 64 bits
+abbrev pub FitsOperand : Operand → Type 0
+FitsOperand (operand.Number z) = FitsSigned w64 z
+FitsOperand (operand.Name n) = Unit {0}
+
+-- each number of a value is a signed one of 64 bits
+abbrev pub FitsValue : Value → Type 0
+FitsValue (value.Plain o) = FitsOperand o
+FitsValue (value.Operated o) = FitsOperand o.left × FitsOperand o.right
+
+-- what each source that is read has
+pub record IsSource (s : Source) : Type 0 where
+  pub few : length s.params ≤ 63
+  pub bound : s.claim.bound ≤ S
+  pub numbers : FitsValue s.value

@@ -1,0 +1,4 @@
+pub mod Distinct
+pub mod Kept
+pub mod Lists
+pub mod Utf8

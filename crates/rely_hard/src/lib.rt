@@ -2,7 +2,14 @@
 #![tactic(auto)]
 
 mod fault;
+mod fields;
+mod file;
 mod hardware;
+mod kinds;
+mod memories;
+mod operators;
+mod place;
 
 pub use fault::{HardFault, HardWhy, Key};
+pub use file::read;
 pub use hardware::{Hardware, KindSpec, MemSpec, OpSpec};

@@ -1,0 +1,6 @@
+pub mod Numbers
+pub mod Behind
+pub mod Pieces
+pub mod FormLemmas
+pub mod ReadingLaws
+pub mod LongestLaws

@@ -1,6 +1,13 @@
 //! The tokens of a source text.
 #![tactic(auto)]
 
+mod forms;
+mod front;
+mod lex;
+mod piece;
+#[cfg(test)]
+mod tests;
 mod token;
 
+pub use lex::tokens;
 pub use token::{LexFault, Token, TokenKind, Word};

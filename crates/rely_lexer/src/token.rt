@@ -1,4 +1,5 @@
 use rely_num::{Op, Span};
+use std::alloc::AllocFailed;
 use thiserror::Error;
 
 /// A word that the language keeps for itself.
@@ -54,4 +55,15 @@ pub enum LexFault {
     NumberWide(u32),
     #[error("out of memory")]
     Memory,
+}
+
+impl<T: Drop> From<AllocFailed<T>> for LexFault {
+    ghost use Rattle.std.specs.Prelude.{◌≡◌};
+    ghost use Rattle.rely_lexer.specs.declared.token.LexFault.TheVariants.{Memory};
+
+    ghost from_gives = { λ _ e. e ≡ Memory };
+
+    fn from(_failed: AllocFailed<T>) -> LexFault {
+        LexFault::Memory
+    }
 }

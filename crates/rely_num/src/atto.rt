@@ -28,7 +28,7 @@ pub enum NumFault {
 }
 
 /// A probability, in attos.
-#[derive(Clone, Copy, Debug, PartialEq, Eq, PartialOrd, Ord)]
+#[derive(Clone, Copy, Debug, PartialEq, Eq, PartialOrd, Ord, Hash)]
 pub struct Atto {
     attos: u64,
 }
@@ -44,6 +44,10 @@ impl Model for Atto {
 }
 
 impl Atto {
+    /// The probability one.
+    pub const ONE: Atto = Atto { attos: ONE };
+
+    /// The probability of so many attos; none above one.
     pub fn new(n: u64) -> Option<Atto>
         ensures some { IfSome result (λ a. a ≡ n) }
         ensures none { IsNone result ↔ (S < n) }
@@ -55,10 +59,18 @@ impl Atto {
         }
     }
 
+    /// Its attos.
     pub fn get(self) -> u64
         ensures value { result ≡ self }
         ensures bound { result ≤ S }
     {
         self.attos
+    }
+
+    pub(crate) fn from_attos(n: u64) -> Atto
+        requires { n ≤ S }
+        ensures { result ≡ n }
+    {
+        Atto { attos: n }
     }
 }

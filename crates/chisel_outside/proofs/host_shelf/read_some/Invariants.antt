@@ -1,0 +1,7 @@
+-- An interrupted read takes nothing, and the buffer keeps its length.
+use Rattle.std.proofs.Common.{◌≡◌, length}
+use Rattle.std.specs.Io.KnownBytes.{Keeps}
+use Rattle.chisel_outside.proofs.host_shelf.read_some.Given as goal
+
+abbrev pub invariant-loop : goal.invariant-loop
+invariant-loop g l = (length l.piece ≡ length l.initial.piece) × Keeps (g.F.Read.remaining l.initial.file) (g.F.Read.remaining l.file)

@@ -1,0 +1,12 @@
+use Rattle.std.proofs.Common.{◌∙◌, sym, rules, tests}
+use Rattle.std.proofs.lemmas.Iterator.{YieldsList-from_slice}
+use Rattle.std.proofs.lemmas.Iterator.Search.{any_from_yields_List}
+use Rattle.rely_num.specs.Texts.{same_text}
+use Rattle.rely_hard.specs.declared.hardware.MemSpec.{MemSpec}
+use Rattle.rely_hard.proofs.Lists.{is_among_map}
+use Rattle.rely_hard.proofs.memories.has_memory.Goals as goal
+
+pub returns : goal.returns
+returns c =
+    any_from_yields_List (λ (memory : MemSpec). same_text c.args.name.now memory.name) _ _ _ c.any.ensures.ran (YieldsList-from_slice c.args.memories.now cc) (λ x b q k. search (rules, tests))
+    ∙ sym (is_among_map c.args.name.now (λ (memory : MemSpec). memory.name) c.args.memories.now)

@@ -1,0 +1,40 @@
+-- What the tokens of a text are, apart from how they are found: slices of the text in order, with gaps between them.
+use Rattle.std.specs.Prelude.{◌≡◌, ℕ, ◌^◌, ◌<◌, ◌≤◌, Bool, true, false, not, ◌&&◌, ◌||◌, ◌==◌, List, [], ◌∷◌, ◌++◌, length, drop, Some, IsTrue, if◌then◌else◌}
+use Rattle.std.specs.List.{list_all, slice_range}
+use Rattle.rely_num.specs.Texts.{Bytes, is_digit, is_name}
+use Rattle.rely_num.specs.AttoTexts.{number_of}
+use Rattle.rely_lexer.specs.declared.token.Token.{Token}
+use Rattle.rely_lexer.specs.declared.token.TokenKind.{TokenKind}
+use Rattle.rely_lexer.specs.declared.token.TokenKind.TheVariants as kind
+use Rattle.rely_lexer.specs.Forms.{word_of, operator_of, is_mark}
+use Rattle.rely_lexer.specs.Tokens.{is_blank, begins_comment}
+
+-- one digit or more
+abbrev pub AreDigits : Bytes → Type 0
+AreDigits text = (0 < length text) × IsTrue (list_all is_digit text)
+
+-- the bytes have the form of a token
+abbrev pub HasForm : TokenKind → Bytes → Type 0
+HasForm kind.Name text = IsTrue (is_name text)
+HasForm (kind.Word w) text = word_of text ≡ Some w
+HasForm (kind.Number n) text = AreDigits text × (number_of text ≡ n) × (n < 2 ^ 63)
+HasForm kind.Decimal text = (whole : Bytes) × (fraction : Bytes) × (text ≡ whole ++ 46 ∷ fraction) × AreDigits whole × AreDigits fraction
+HasForm (kind.Mark byte) text = (text ≡ byte ∷ []) × IsTrue (is_mark byte)
+HasForm (kind.Oper o) text = operator_of text ≡ Some o
+
+-- blanks and comments, where the text begins inside a comment or not; a comment ends before a newline, or where the whole text ends
+abbrev pub is_gap : Bool → Bool → Bytes → Bool
+is_gap ends inside [] = ends || not inside
+is_gap ends true (byte ∷ bytes) = is_gap ends (not (byte == 10)) bytes
+is_gap ends false (byte ∷ bytes) = if is_blank byte then is_gap ends false bytes else (begins_comment (byte ∷ bytes) && is_gap ends true bytes)
+
+-- bytes from the one place that reach beyond the other don't have the form of a token
+abbrev pub IsLongest : Bytes → ℕ → ℕ → Type 0
+IsLongest text from to = (end : ℕ) (k : TokenKind) → end ≤ length text → HasForm k (slice_range text from end) → end ≤ to
+
+-- from a place on, the tokens are slices of the text, none empty, each the longest from its place on and behind the one before, and what stands between them is blanks and comments
+abbrev pub AreTokensFrom : Bytes → ℕ → List Token → Type 0
+AreTokensFrom text place [] = IsTrue (is_gap true false (drop place text))
+AreTokensFrom text place (token ∷ tokens) =
+    (place ≤ token.span.from) × (token.span.from < token.span.to) × (token.span.to ≤ length text) × IsTrue (is_gap false false (slice_range text place token.span.from))
+    × HasForm token.kind (slice_range text token.span.from token.span.to) × IsLongest text token.span.from token.span.to × AreTokensFrom text token.span.to tokens

@@ -1,0 +1,8 @@
+use Rattle.rely_verdict.proofs.AllAccepted.{reached_accepted, accepted_holds}
+use Rattle.rely_verdict.proofs.law.accepted_claims_hold.Goals as goal
+
+pub returns-clause-reached : goal.returns-clause-reached
+returns-clause-reached c = reached_accepted
+
+pub returns-clause-main : goal.returns-clause-main
+returns-clause-main c = accepted_holds
