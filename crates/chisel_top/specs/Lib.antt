@@ -1,2 +1,9 @@
+pub mod Asked
+pub mod Findings
 pub mod FirstKernel
 pub mod FirstSource
+pub mod Promises
+pub mod Statuses
+pub mod Steps
+pub mod Telling
+pub mod Words

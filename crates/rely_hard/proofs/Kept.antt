@@ -1,15 +1,15 @@
 -- What is read keeps the rules of hardware.
-use Rattle.std.proofs.Common.{◌≡◌, ℕ, ◌+◌, ◌<◌, ◌≤◌, Bool, true, false, not, ◌||◌, ◌==◌, nat_lt, map, List, [], ◌∷◌, ◌++◌, length, take, codes, IsTrue, Option, Some, None, Result, Ok, Err, if◌then◌else◌, refl, ap, sym, ◌∙◌, subst, arith}
+use Rattle.std.proofs.Common.{◌≡◌, ℕ, ◌+◌, ◌≤◌, Bool, true, false, not, ◌||◌, ◌==◌, nat_lt, map, List, [], ◌∷◌, ◌++◌, length, take, codes, IsTrue, Option, Some, None, Result, Ok, Err, if◌then◌else◌, refl, ap, sym, subst, arith}
 use Rattle.std.specs.Prelude.{IfOk, option_and_then}
 use Rattle.std.specs.List.{AllByRecursion, list_any}
 use Rattle.std.specs.Result.{result_ok}
 use Rattle.std.proofs.lemmas.Bool.{false≢true, ltb-false}
 use Rattle.std.proofs.lemmas.List.{length-append}
 use Rattle.serde_json.specs.Data.{Data, Items, no_items, item}
-use Rattle.serde_json.specs.Find.{get, as_number, as_u64, as_object, as_array}
+use Rattle.serde_json.specs.Find.{get, as_number, as_u64}
 use Rattle.rely_num.specs.AttoTexts.{atto_of, formed, within_one, attos_of, leaves_at}
 use Rattle.rely_num.specs.Bounds.{S}
-use Rattle.rely_num.specs.Ops.{is_op, op_number, op_of}
+use Rattle.rely_num.specs.Ops.{is_op, op_of}
 use Rattle.rely_num.specs.Texts.{Bytes, is_name, is_among, AreDistinct}
 use Rattle.rely_num.specs.declared.atto.NumFault.{NumFault}
 use Rattle.rely_num.specs.declared.atto.NumFault.TheVariants as num

@@ -1,5 +1,5 @@
 -- Laws of lists of values, read one after another.
-use Rattle.std.proofs.Common.{◌≡◌, ℕ, Bool, ◌||◌, map, ◌+◌, ◌<◌, List, [], ◌∷◌, ◌++◌, Result, Ok, Err, refl, ap, sym, ◌∙◌, drop, length, get_or, arith}
+use Rattle.std.proofs.Common.{◌≡◌, ℕ, ◌||◌, map, ◌+◌, ◌<◌, List, [], ◌∷◌, ◌++◌, Result, refl, ap, sym, ◌∙◌, drop, length, get_or, arith}
 use Rattle.std.proofs.lemmas.List.{drop_more}
 use Rattle.std.specs.List.{list_any}
 use Rattle.rely_num.specs.Texts.{Bytes, same_text, is_among}

@@ -1,5 +1,5 @@
 -- What the bytes of a hardware file say, by the value that serde_json reads; the first refusal stands.
-use Rattle.std.specs.Prelude.{ℕ, ◌+◌, Bool, not, ◌&&◌, ◌||◌, ◌==◌, nat_lt, nat_le, List, [], ◌∷◌, ◌++◌, map, length, codes, Option, Some, None, option_and_then, is_none, ⊤, Result, Ok, Err, if◌then◌else◌}
+use Rattle.std.specs.Prelude.{ℕ, ◌+◌, Bool, not, ◌&&◌, ◌||◌, ◌==◌, nat_lt, List, [], ◌∷◌, ◌++◌, map, length, codes, Option, Some, None, option_and_then, is_none, ⊤, Result, Ok, Err, if◌then◌else◌}
 use Rattle.std.specs.List.{list_any}
 use Rattle.std.specs.Result.{result_ok}
 use Rattle.std.specs.Str.{is_utf8}
@@ -49,7 +49,7 @@ abbrev pub must : {A : Type 0} → HardWhy → Place → Option A → Result A H
 must why p None = Err (fault why p)
 must why p (Some a) = Ok a
 
--- what must pass
+-- what was read, unless it is bad
 abbrev pub unless : {A : Type 0} → Bool → HardWhy → Place → A → Result A HardFault
 unless bad why p a = if bad then Err (fault why p) else Ok a
 
@@ -71,7 +71,7 @@ atto_at p v = do
   text ← text_at p v
   must Range p (result_ok (atto_of text))
 
--- the probability that the reliability of a whole kernel is measured by
+-- the base, from a half to a billionth below one
 unfoldable pub base_at : Place → Option Data → Result ℕ HardFault
 base_at p v = do
   base ← atto_at p v
@@ -105,6 +105,7 @@ op_at before p v = do
 
 -- ---- lists
 
+-- how many members a list has
 abbrev pub count_of : Items → ℕ
 count_of no_items = 0
 count_of (item d ds) = 1 + count_of ds
@@ -128,55 +129,60 @@ each_after one before (item d ds) = one before d >>= λ a. each_after one (befor
 
 -- ---- the hardware
 
--- a kind of the operator of that number
+-- a kind of the operator of that number, numbered by those before it
 unfoldable pub kind_at : ℕ → List KindSpec → Data → Result KindSpec HardFault
-kind_at outer before d =
-    let inner = length before + 1 in
-    object_at (place Kinds outer inner) d >>= λ _.
-    name_at (map (λ k. k.name) before) (place Name outer inner) (get (codes "name") d) >>= λ name.
-    atto_at (place Right outer inner) (get (codes "right") d) >>= λ right.
-    energy_at (place Energy outer inner) (get (codes "energy") d) >>= λ energy.
-    Ok (record { name = name; right = right; energy = energy })
+kind_at outer before d = do
+  let inner = length before + 1
+  _ ← object_at (place Kinds outer inner) d
+  name ← name_at (map (λ k. k.name) before) (place Name outer inner) (get (codes "name") d)
+  right ← atto_at (place Right outer inner) (get (codes "right") d)
+  energy ← energy_at (place Energy outer inner) (get (codes "energy") d)
+  Ok (record { name = name; right = right; energy = energy })
 
 -- some kind is exact and always right
 unfoldable pub has_exact_kind : List KindSpec → Bool
 has_exact_kind ks = list_any (λ k. same_text k.name exact && k.right == S) ks
 
+-- the kinds of the operator of that number, one of them exact and always right
 unfoldable pub kinds_at : ℕ → Option Data → Result (List KindSpec) HardFault
 kinds_at outer v = do
   ds ← few_at (place Kinds outer 0) v
   ks ← each_after (kind_at outer) [] ds
   unless (not (has_exact_kind ks)) NoExact (place Kinds outer 0) ks
 
+-- an operator, numbered by those before it
 unfoldable pub operator_at : List OpSpec → Data → Result OpSpec HardFault
-operator_at before d =
-    let outer = length before + 1 in
-    object_at (place Operators outer 0) d >>= λ _.
-    op_at before (place Op outer 0) (get (codes "op") d) >>= λ op.
-    kinds_at outer (get (codes "kinds") d) >>= λ kinds.
-    Ok (record { op = op; kinds = kinds })
+operator_at before d = do
+  let outer = length before + 1
+  _ ← object_at (place Operators outer 0) d
+  op ← op_at before (place Op outer 0) (get (codes "op") d)
+  kinds ← kinds_at outer (get (codes "kinds") d)
+  Ok (record { op = op; kinds = kinds })
 
+-- the operators
 unfoldable pub operators_at : Option Data → Result (List OpSpec) HardFault
 operators_at v = do
   ds ← list_at (place Operators 0 0) v
   each_after operator_at [] ds
 
+-- a memory, numbered by those before it
 unfoldable pub memory_at : List MemSpec → Data → Result MemSpec HardFault
-memory_at before d =
-    let outer = length before + 1 in
-    object_at (place Memories outer 0) d >>= λ _.
-    name_at (map (λ m. m.name) before) (place Name outer 0) (get (codes "name") d) >>= λ name.
-    atto_at (place Read outer 0) (get (codes "read") d) >>= λ read.
-    atto_at (place Write outer 0) (get (codes "write") d) >>= λ write.
-    energy_at (place ReadEnergy outer 0) (get (codes "read_energy") d) >>= λ read_energy.
-    energy_at (place WriteEnergy outer 0) (get (codes "write_energy") d) >>= λ write_energy.
-    energy_at (place Hold outer 0) (get (codes "hold") d) >>= λ hold.
-    Ok (record { name = name; read = read; write = write; read_energy = read_energy; write_energy = write_energy; hold = hold })
+memory_at before d = do
+  let outer = length before + 1
+  _ ← object_at (place Memories outer 0) d
+  name ← name_at (map (λ m. m.name) before) (place Name outer 0) (get (codes "name") d)
+  read ← atto_at (place Read outer 0) (get (codes "read") d)
+  write ← atto_at (place Write outer 0) (get (codes "write") d)
+  read_energy ← energy_at (place ReadEnergy outer 0) (get (codes "read_energy") d)
+  write_energy ← energy_at (place WriteEnergy outer 0) (get (codes "write_energy") d)
+  hold ← energy_at (place Hold outer 0) (get (codes "hold") d)
+  Ok (record { name = name; read = read; write = write; read_energy = read_energy; write_energy = write_energy; hold = hold })
 
 -- some memory is exact and always right
 unfoldable pub has_exact_memory : List MemSpec → Bool
 has_exact_memory ms = list_any (λ m. same_text m.name exact && (m.read == S && m.write == S)) ms
 
+-- the memories, one of them exact and always right
 unfoldable pub memories_at : Option Data → Result (List MemSpec) HardFault
 memories_at v = do
   ds ← few_at (place Memories 0 0) v
@@ -185,12 +191,12 @@ memories_at v = do
 
 -- the hardware of a value
 unfoldable pub hardware_from : Data → Result Hardware HardFault
-hardware_from d =
-    object_at (place Root 0 0) d >>= λ _.
-    base_at (place Base 0 0) (get (codes "base") d) >>= λ base.
-    operators_at (get (codes "operators") d) >>= λ operators.
-    memories_at (get (codes "memories") d) >>= λ memories.
-    Ok (record { base = base; operators = operators; memories = memories })
+hardware_from d = do
+  _ ← object_at (place Root 0 0) d
+  base ← base_at (place Base 0 0) (get (codes "base") d)
+  operators ← operators_at (get (codes "operators") d)
+  memories ← memories_at (get (codes "memories") d)
+  Ok (record { base = base; operators = operators; memories = memories })
 
 -- the hardware of the bytes of a file
 abbrev pub hardware_of : Bytes → Result Hardware HardFault

@@ -19,6 +19,7 @@ use Rattle.rely_lexer.specs.Forms.{lookup, words, word_of, operator_of, name_kin
 use Rattle.rely_lexer.specs.Tokens.{piece_of, token_piece, gap_length, name_piece, number_piece, fraction_length, whole_piece, sign_piece, signed}
 use Rattle.rely_lexer.specs.Readings.{HasForm, AreDigits}
 
+-- one byte more from the front
 pub take-one : (n : ℕ) (byte : ℕ) (bytes : Bytes) → take (1 + n) (byte ∷ bytes) ≡ byte ∷ take n bytes
 take-one n byte bytes = let e : 1 + n ≡ suc n = omega arith in ap (λ k. take k (byte ∷ bytes)) e
 
@@ -31,7 +32,7 @@ list_all-prefix p (byte ∷ bytes) =
     (λ passes. rw (take-one n byte bytes) (and_from (p byte) (list_all p (take n bytes)) passes (list_all-prefix p bytes))) (λ _. refl)
 
 -- digits from the front on
-AreDigits-prefix : (text : Bytes) → is_digit (get_or text 0 0) ≡ true → AreDigits (take (prefix_len is_digit text) text)
+pub AreDigits-prefix : (text : Bytes) → is_digit (get_or text 0 0) ≡ true → AreDigits (take (prefix_len is_digit text) text)
 AreDigits-prefix [] digit = absurd (false≢true digit)
 AreDigits-prefix (byte ∷ bytes) digit =
     let text = byte ∷ bytes in
@@ -55,6 +56,7 @@ name-form text None word is =
     let free : is_among text reserved ≡ false = is_among-keys text words is in
     and_from (is_word text) (not (is_among text reserved)) word (ap not free)
 
+-- the longest name is a letter, and then letters and digits
 is_word-prefix : (text : Bytes) → is_letter (get_or text 0 0) ≡ true → is_word (take (prefix_len is_name_byte text) text) ≡ true
 is_word-prefix [] letter = letter
 is_word-prefix (byte ∷ bytes) letter =
@@ -76,10 +78,12 @@ fraction-form (byte ∷ bytes) some =
     (λ both _. let parts = and_parts point digit both in (take n bytes, take-one n byte bytes ∙ ap (λ b. b ∷ take n bytes) (eqb-true byte 46 parts.0), AreDigits-prefix bytes parts.1))
     (λ _ none. absurd (omega arith)) some
 
+-- a byte that is a mark
 mark-form : (marked : Bool) (byte : ℕ) (k : TokenKind) → is_mark byte ≡ marked → cond marked (Some (kind.Mark byte)) None ≡ Some k → HasForm k (byte ∷ [])
 mark-form true byte k is taken = let e : kind.Mark byte ≡ k = cc in subst (λ (j : TokenKind). HasForm j (byte ∷ [])) e (refl, is)
 mark-form false byte k is taken = absurd (cc)
 
+-- one byte alone is a mark, if it is a token
 alone-form : (text : Bytes) (k : TokenKind) → alone text ≡ Some k → HasForm k text
 unfolding mark_kind
 alone-form [] k taken = absurd (cc)
@@ -98,12 +102,14 @@ PieceFits text (Lexeme k n) = HasForm k (take n text)
 PieceFits text Wide = Unit {0}
 PieceFits text Bad = Unit {0}
 
+-- the name at the front has its form
 name_piece-fits : (text : Bytes) → is_letter (get_or text 0 0) ≡ true → PieceFits text (name_piece text)
 unfolding name_piece name_kind
 name_piece-fits text letter =
     let name = take (prefix_len is_name_byte text) text in
     name-form name (word_of name) (is_word-prefix text letter) refl
 
+-- the whole number at the front has its form
 whole_piece-fits : (text : Bytes) → is_digit (get_or text 0 0) ≡ true → PieceFits text (whole_piece (take (prefix_len is_digit text) text))
 unfolding whole_piece
 whole_piece-fits text digit =
@@ -112,6 +118,7 @@ whole_piece-fits text digit =
     cond_both (nat_lt n (2 ^ 63)) (Lexeme (kind.Number n) (length digits)) Wide (PieceFits text)
     (λ few. let e : take (length digits) text ≡ digits = ap (λ k. take k text) (length-prefix_len is_digit text) in rw e (AreDigits-prefix text digit, refl, ltb-true n (2 ^ 63) few)) (λ _. tt)
 
+-- the number at the front has its form
 number_piece-fits : (text : Bytes) → is_digit (get_or text 0 0) ≡ true → PieceFits text (number_piece text)
 unfolding number_piece
 number_piece-fits text digit =
@@ -121,29 +128,35 @@ number_piece-fits text digit =
     (λ some. let f = fraction-form (drop n text) (ltb-true 0 m some) in (take n text, f.0, take-add n m text ∙ ap (λ r. take n text ++ r) f.1, AreDigits-prefix text digit, f.2))
     (λ _. whole_piece-fits text digit)
 
+-- nothing, or a piece that fits
 abbrev IfFits : Bytes → Option Piece → Type 0
 IfFits text None = Unit {0}
 IfFits text (Some piece) = PieceFits text piece
 
+-- an operator or a mark at the front has its form
 signed-fits : (text sign : Bytes) (found : Option TokenKind) → sign_kind sign ≡ found → take (length sign) text ≡ sign → IfFits text (option_map (λ k. Lexeme k (length sign)) found)
 unfolding sign_kind
 signed-fits text sign None is front = tt
 signed-fits text sign (Some k) is front = subst (HasForm k) (sym front) (sign-form sign k (operator_of sign) refl is)
 
+-- the first of two pieces that fit, or a bad byte
 first-fits : (text : Bytes) (two one : Option Piece) → IfFits text two → IfFits text one → PieceFits text (unwrap_or (option_or two one) Bad)
 first-fits text (Some piece) one fits others = fits
 first-fits text None (Some piece) fits others = others
 first-fits text None None fits others = tt
 
+-- a front of the text by its own length
 take_again : (n : ℕ) (text : Bytes) → take (length (take n text)) text ≡ take n text
 take_again n text = ap (λ k. take k text) (length-take n text) ∙ take_min n text
 
+-- the sign at the front has its form
 sign_piece-fits : (text : Bytes) → PieceFits text (sign_piece text)
 unfolding sign_piece
 sign_piece-fits text =
     first-fits text (signed (take 2 text)) (signed (take 1 text)) (signed-fits text (take 2 text) (sign_kind (take 2 text)) refl (take_again 2 text))
     (signed-fits text (take 1 text) (sign_kind (take 1 text)) refl (take_again 1 text))
 
+-- the token at the front has its form
 token_piece-fits : (text : Bytes) → PieceFits text (token_piece text)
 unfolding token_piece
 token_piece-fits text =
@@ -151,12 +164,14 @@ token_piece-fits text =
     cond_both (is_letter first) (name_piece text) (if is_digit first then number_piece text else sign_piece text) (PieceFits text) (name_piece-fits text)
     (λ _. cond_both (is_digit first) (number_piece text) (sign_piece text) (PieceFits text) (number_piece-fits text) (λ _. sign_piece-fits text))
 
+-- the piece at the front fits
 pub piece_of-fits : (text : Bytes) → PieceFits text (piece_of text)
 unfolding piece_of
 piece_of-fits text =
     let n = gap_length text in
     cond_both (nat_lt 0 n) (Gap n) (token_piece text) (PieceFits text) (λ _. refl) (λ _. token_piece-fits text)
 
+-- no decimal begins with a newline
 digits-first : (whole fraction bytes : Bytes) → 10 ∷ bytes ≡ whole ++ 46 ∷ fraction → AreDigits whole → ⊥
 digits-first [] fraction bytes is digits = absurd (omega (arith, digits.0))
 digits-first (digit ∷ more) fraction bytes is digits =
@@ -173,6 +188,7 @@ not-newline kind.Decimal bytes (whole, fraction, is, digits, more) = digits-firs
 not-newline (kind.Mark byte) bytes form = let e : byte ≡ 10 = cc form.0 in false≢true (subst (λ (b : ℕ). is_mark b ≡ true) e form.1)
 not-newline (kind.Oper o) bytes form = cc
 
+-- the first byte of a token is no newline
 pub HasForm-first : (k : TokenKind) (text : Bytes) → HasForm k text → get_or text 0 0 ≢ 10
 HasForm-first k [] form = λ e. absurd (omega (arith, e))
 HasForm-first k (byte ∷ bytes) form = λ e. not-newline k bytes (subst (λ (b : ℕ). HasForm k (b ∷ bytes)) e form)

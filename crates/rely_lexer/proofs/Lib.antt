@@ -4,3 +4,4 @@ pub mod Pieces
 pub mod FormLemmas
 pub mod ReadingLaws
 pub mod LongestLaws
+pub mod RefusalLaws

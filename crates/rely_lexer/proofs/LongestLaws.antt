@@ -37,29 +37,35 @@ prefix-from-all p (byte ∷ bytes) (suc n) few all =
     let parts = and_parts (p byte) (list_all p (take n bytes)) all in
     omega (arith, cond-true (p byte) (1 + prefix_len p bytes) 0 parts.0, prefix-from-all p bytes n (omega arith) parts.1)
 
-first-same : (text : Bytes) (n : ℕ) → get_or (take (suc n) text) 0 0 ≡ get_or text 0 0
+-- a front of the text begins as the text does
+pub first-same : (text : Bytes) (n : ℕ) → get_or (take (suc n) text) 0 0 ≡ get_or text 0 0
 first-same [] n = refl
 first-same (byte ∷ bytes) n = refl
 
-is_word-first : (text : Bytes) → is_word text ≡ true → is_letter (get_or text 0 0) ≡ true
+-- a word begins with a letter
+pub is_word-first : (text : Bytes) → is_word text ≡ true → is_letter (get_or text 0 0) ≡ true
 is_word-first [] word = absurd (false≢true word)
 is_word-first (byte ∷ bytes) word = (and_parts (is_letter byte) (list_all is_name_byte bytes) word).0
 
+-- a word has letters and digits throughout
 is_word-all : (text : Bytes) → is_word text ≡ true → list_all is_name_byte text ≡ true
 is_word-all [] word = refl
 is_word-all (byte ∷ bytes) word =
     let parts = and_parts (is_letter byte) (list_all is_name_byte bytes) word in
     and_from (is_name_byte byte) (list_all is_name_byte bytes) (or_left (is_letter byte) (is_digit byte) parts.0) parts.1
 
+-- digits begin with a digit
 digits-first : (text : Bytes) → AreDigits text → is_digit (get_or text 0 0) ≡ true
 digits-first [] digits = absurd (omega (arith, digits.0))
 digits-first (byte ∷ bytes) digits = (and_parts (is_digit byte) (list_all is_digit bytes) digits.1).0
 
+-- a decimal begins with a digit
 decimal-first : (text whole fraction : Bytes) → text ≡ whole ++ 46 ∷ fraction → AreDigits whole → is_digit (get_or text 0 0) ≡ true
 decimal-first text [] fraction is digits = absurd (omega (arith, digits.0))
 decimal-first text (digit ∷ more) fraction is digits =
     ap (λ (t : Bytes). is_digit (get_or t 0 0)) is ∙ digits-first (digit ∷ more) digits
 
+-- no byte is a letter and a digit
 letter-or-digit : (byte : ℕ) → is_letter byte ≡ true → is_digit byte ≡ true → ⊥
 letter-or-digit byte letter digit = grind (arith, nat_tests)
 
@@ -67,6 +73,7 @@ letter-or-digit byte letter digit = grind (arith, nat_tests)
 is_short_sign : Bytes → Bool
 is_short_sign text = not (is_letter (get_or text 0 0)) && (not (is_digit (get_or text 0 0)) && nat_le (length text) 2)
 
+-- what an operator begins with, and how long it is
 operator-sign : (text : Bytes) (o : Op) → operator_of text ≡ Some o → (is_letter (get_or text 0 0) ≡ false) × (is_digit (get_or text 0 0) ≡ false) × (length text ≤ 2)
 unfolding operator_of is_short_sign
 operator-sign text o is =
@@ -76,7 +83,7 @@ operator-sign text o is =
     (not-true (is_letter (get_or text 0 0)) first.0, not-true (is_digit (get_or text 0 0)) second.0, leb-true (length text) 2 second.1)
 
 -- the first bytes of a form: a letter, a digit, or one or two bytes of which neither is first
-abbrev FirstOf : TokenKind → Bytes → Type 0
+abbrev pub FirstOf : TokenKind → Bytes → Type 0
 FirstOf kind.Name text = is_word text ≡ true
 FirstOf (kind.Word w) text = is_word text ≡ true
 FirstOf (kind.Number n) text = is_digit (get_or text 0 0) ≡ true
@@ -84,7 +91,8 @@ FirstOf kind.Decimal text = is_digit (get_or text 0 0) ≡ true
 FirstOf (kind.Mark byte) text = length text ≡ 1
 FirstOf (kind.Oper o) text = (is_letter (get_or text 0 0) ≡ false) × (is_digit (get_or text 0 0) ≡ false) × (length text ≤ 2)
 
-first-of : (k : TokenKind) (text : Bytes) → HasForm k text → FirstOf k text
+-- how a token begins
+pub first-of : (k : TokenKind) (text : Bytes) → HasForm k text → FirstOf k text
 unfolding word_of
 first-of kind.Name text form = (and_parts (is_word text) (not (is_among text reserved)) form).0
 first-of (kind.Word w) text form = lookup-keys is_word text words w form refl
@@ -100,6 +108,7 @@ IsLongestPiece text (Lexeme k m) = (n : ℕ) (j : TokenKind) → n ≤ length te
 IsLongestPiece text Wide = Unit {0}
 IsLongestPiece text Bad = Unit {0}
 
+-- where a letter is first, no token is longer than the longest name
 named : (text : Bytes) (n : ℕ) (j : TokenKind) → is_letter (get_or text 0 0) ≡ true → 0 < length text → suc n ≤ length text → HasForm j (take (suc n) text) → suc n ≤ prefix_len is_name_byte text
 named text n kind.Name letter some few form = prefix-from-all is_name_byte text (suc n) few (is_word-all (take (suc n) text) (first-of kind.Name (take (suc n) text) form))
 named text n (kind.Word w) letter some few form = prefix-from-all is_name_byte text (suc n) few (is_word-all (take (suc n) text) (first-of (kind.Word w) (take (suc n) text) form))
@@ -110,6 +119,7 @@ named text n (kind.Mark byte) letter some few form =
 named text n (kind.Oper o) letter some few form =
     absurd (both_ways (is_letter (get_or text 0 0)) (ap is_letter (sym (first-same text n)) ∙ (first-of (kind.Oper o) (take (suc n) text) form).0) letter)
 
+-- how far a fraction can reach
 point-length : (bytes : Bytes) (n : ℕ) → n ≤ length bytes → AreDigits (take n bytes) → suc n ≤ 0 + fraction_length (46 ∷ bytes)
 unfolding fraction_length
 point-length bytes zero few digits = absurd (omega (arith, digits.0))
@@ -117,6 +127,7 @@ point-length bytes (suc n) few digits =
     let digit : is_digit (get_or bytes 0 0) ≡ true = ap is_digit (sym (first-same bytes n)) ∙ digits-first (take (suc n) bytes) digits in
     omega (arith, prefix-from-all is_digit bytes (suc n) few digits.1, cond-true (is_digit (get_or bytes 0 0)) (1 + prefix_len is_digit bytes) 0 digit)
 
+-- one more digit before a decimal
 digit-length : (byte : ℕ) (bytes : Bytes) (n : ℕ) → is_digit byte ≡ true → n ≤ prefix_len is_digit bytes + fraction_length (drop (prefix_len is_digit bytes) bytes) →
     suc n ≤ prefix_len is_digit (byte ∷ bytes) + fraction_length (drop (prefix_len is_digit (byte ∷ bytes)) (byte ∷ bytes))
 digit-length byte bytes n passes few =
@@ -143,6 +154,7 @@ decimal-length (digit ∷ whole) (byte ∷ bytes) fraction (suc n) few is digits
     let passes : is_digit byte ≡ true = ap is_digit first ∙ parts.0 in
     digit-length byte bytes n passes (decimal-length whole bytes fraction n (omega arith) rest parts.1 more)
 
+-- where a digit is first, no token is longer than the digits and the fraction behind them
 numbered : (text : Bytes) (n : ℕ) (j : TokenKind) → is_digit (get_or text 0 0) ≡ true → 0 < length text → suc n ≤ length text → HasForm j (take (suc n) text) →
     suc n ≤ prefix_len is_digit text + fraction_length (drop (prefix_len is_digit text) text)
 numbered text n kind.Name digit some few form =
@@ -156,16 +168,19 @@ numbered text n (kind.Mark byte) digit some few form =
 numbered text n (kind.Oper o) digit some few form =
     absurd (both_ways (is_digit (get_or text 0 0)) (ap is_digit (sym (first-same text n)) ∙ (first-of (kind.Oper o) (take (suc n) text) form).1) digit)
 
+-- the longest name is the longest token
 name_piece-longest : (text : Bytes) → is_letter (get_or text 0 0) ≡ true → 0 < length text → IsLongestPiece text (name_piece text)
 unfolding name_piece
 name_piece-longest text letter some zero j few form = omega arith
 name_piece-longest text letter some (suc n) j few form = named text n j letter some few form
 
+-- the same for any length
 reached : (text : Bytes) → is_digit (get_or text 0 0) ≡ true → 0 < length text → (k : ℕ) (j : TokenKind) → k ≤ length text → HasForm j (take k text) →
     k ≤ prefix_len is_digit text + fraction_length (drop (prefix_len is_digit text) text)
 reached text digit some zero j few form = omega arith
 reached text digit some (suc k) j few form = numbered text k j digit some few form
 
+-- a whole number with no fraction behind it is the longest token
 whole_piece-longest : (text : Bytes) → is_digit (get_or text 0 0) ≡ true → 0 < length text → fraction_length (drop (prefix_len is_digit text) text) ≤ 0 →
     IsLongestPiece text (whole_piece (take (prefix_len is_digit text) text))
 unfolding whole_piece
@@ -175,6 +190,7 @@ whole_piece-longest text digit some none =
     cond_both (nat_lt v (2 ^ 63)) (Lexeme (kind.Number v) (length digits)) Wide (IsLongestPiece text)
     (λ _ k j few form. omega (arith, reached text digit some k j few form, length-prefix_len is_digit text)) (λ _. tt)
 
+-- the number at the front is the longest token
 number_piece-longest : (text : Bytes) → is_digit (get_or text 0 0) ≡ true → 0 < length text → IsLongestPiece text (number_piece text)
 unfolding number_piece
 number_piece-longest text digit some =
@@ -205,11 +221,13 @@ symbol text (suc zero) (kind.Oper o) letter digit few form = inr (refl, λ none.
 symbol text (suc (suc n)) (kind.Oper o) letter digit few form =
     absurd (omega (arith, (first-of (kind.Oper o) (take (suc (suc (suc n))) text) form).2, length-take-le (suc (suc (suc n))) text few))
 
-short : (text : Bytes) (n : ℕ) (j : TokenKind) → is_letter (get_or text 0 0) ≡ false → is_digit (get_or text 0 0) ≡ false → n ≤ length text → HasForm j (take n text) →
+-- the same for any length
+pub short : (text : Bytes) (n : ℕ) (j : TokenKind) → is_letter (get_or text 0 0) ≡ false → is_digit (get_or text 0 0) ≡ false → n ≤ length text → HasForm j (take n text) →
     (n ≤ 1) ⊎ ((n ≡ 2) × (sign_kind (take 2 text) ≡ None → ⊥))
 short text zero j letter digit few form = inl (omega arith)
 short text (suc n) j letter digit few form = symbol text n j letter digit few form
 
+-- a sign is the longest token, by whether the first two bytes and the first byte are one
 sign-longest : (text : Bytes) (two one : Option TokenKind) → sign_kind (take 2 text) ≡ two → is_letter (get_or text 0 0) ≡ false → is_digit (get_or text 0 0) ≡ false →
     IsLongestPiece text (unwrap_or (option_or (option_map (λ k. Lexeme k (length (take 2 text))) two) (option_map (λ k. Lexeme k (length (take 1 text))) one)) Bad)
 sign-longest text (Some k) one is letter digit = λ n j few form.
@@ -218,10 +236,12 @@ sign-longest text None (Some k) is letter digit = λ n j few form.
     ⊎_elim (λ small. omega (arith, length-take 1 text)) (λ two. absurd (two.1 is)) (short text n j letter digit few form)
 sign-longest text None None is letter digit = tt
 
+-- the sign at the front is the longest token
 sign_piece-longest : (text : Bytes) → is_letter (get_or text 0 0) ≡ false → is_digit (get_or text 0 0) ≡ false → IsLongestPiece text (sign_piece text)
 unfolding sign_piece
 sign_piece-longest text letter digit = sign-longest text (sign_kind (take 2 text)) (sign_kind (take 1 text)) refl letter digit
 
+-- the token at the front is the longest
 token_piece-longest : (text : Bytes) → 0 < length text → IsLongestPiece text (token_piece text)
 unfolding token_piece
 token_piece-longest text some =
@@ -230,6 +250,7 @@ token_piece-longest text some =
     (λ letter. cond_both (is_digit first) (number_piece text) (sign_piece text) (IsLongestPiece text) (λ digit. number_piece-longest text digit some)
     (λ digit. sign_piece-longest text letter digit))
 
+-- the piece at the front is the longest token
 pub piece_of-longest : (text : Bytes) → 0 < length text → IsLongestPiece text (piece_of text)
 unfolding piece_of
 piece_of-longest text some =

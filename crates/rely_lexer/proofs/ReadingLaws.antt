@@ -12,11 +12,12 @@ use Rattle.rely_lexer.specs.declared.piece.Piece.{Piece}
 use Rattle.rely_lexer.specs.declared.piece.Piece.TheVariants.{Gap, Lexeme, Wide, Bad}
 use Rattle.rely_lexer.specs.Tokens.{IsWithin, is_blank, is_in_line, begins_comment, gap_length, piece_of, token_at, token_then, tokens_behind, tokens_of}
 use Rattle.rely_lexer.specs.Readings.{HasForm, IsLongest, is_gap, AreTokensFrom}
-use Rattle.rely_lexer.proofs.Pieces.{piece_of_within}
+use Rattle.rely_lexer.proofs.Pieces.{piece_of-within}
 use Rattle.rely_lexer.proofs.LongestLaws.{IsLongestPiece, piece_of-longest}
 use Rattle.rely_lexer.proofs.FormLemmas.{PieceFits, piece_of-fits, HasForm-first}
 use Rattle.rely_lexer.proofs.Behind.{behind-Gap, behind-Lexeme, behind-Wide, behind-Bad, behind-end}
 
+-- no bytes from none
 take-nil : (n : ℕ) → take {A = ℕ} n [] ≡ []
 take-nil zero = refl
 take-nil (suc n) = refl
@@ -26,16 +27,19 @@ Reaches : Bool → Bool → Bytes → ℕ → ℕ → Type 0
 Reaches ends inside text m n =
     is_gap ends false (take m (drop n text)) ≡ true → (ends ≡ true) ⊎ ((n < length text) × (m ≡ 0 → get_or text n 0 ≢ 10)) → is_gap ends inside (take (n + m) text) ≡ true
 
+-- a comment may end where the text does
 ended : (ends : Bool) {P : Type 0} → (ends ≡ true) ⊎ P → (P → ⊥) → (ends || false) ≡ true
 ended true end goes = refl
 ended false (inl e) goes = absurd (false≢true e)
 ended false (inr p) goes = absurd (goes p)
 
+-- a newline ends a comment
 newline-gap : (ends : Bool) (bytes : Bytes) (m : ℕ) → Reaches ends true (10 ∷ bytes) m 0
 unfolding Reaches
 newline-gap ends bytes zero gap end = ended ends end (λ p. p.1 refl refl)
 newline-gap ends bytes (suc m) gap end = let e : 0 + suc m ≡ suc m = omega arith in rw e gap
 
+-- where the text goes on behind one byte more
 ahead : (ends : Bool) (byte : ℕ) (bytes : Bytes) (m n : ℕ) → (ends ≡ true) ⊎ ((suc n < length (byte ∷ bytes)) × (m ≡ 0 → get_or (byte ∷ bytes) (suc n) 0 ≢ 10)) →
     (ends ≡ true) ⊎ ((n < length bytes) × (m ≡ 0 → get_or bytes n 0 ≢ 10))
 ahead ends byte bytes m n (inl e) = inl e
@@ -58,6 +62,7 @@ line-gap ends (byte ∷ bytes) m =
     (λ inline. let e : suc n ≡ 1 + n = omega arith in subst (Reaches ends true (byte ∷ bytes) m) e (longer ends byte bytes m n inline (line-gap ends bytes m)))
     (λ newline. let e : byte ≡ 10 = eqb-true byte 10 (not-false (byte == 10) newline) in subst (λ (b : ℕ). Reaches ends true (b ∷ bytes) m 0) (sym e) (newline-gap ends bytes m))
 
+-- two slashes before the rest of a comment
 slashes : (ends : Bool) (bytes : Bytes) (m n : ℕ) → Reaches ends true bytes m n → Reaches ends false (47 ∷ 47 ∷ bytes) m (suc (suc n))
 unfolding Reaches
 slashes ends bytes m n reaches gap end =
@@ -71,12 +76,14 @@ comment-gap ends bytes m =
     let e : suc (suc n) ≡ 1 + (1 + n) = omega arith in
     subst (Reaches ends false (47 ∷ 47 ∷ bytes) m) e (slashes ends bytes m n (line-gap ends bytes m))
 
+-- the same where the first two bytes are known to be slashes
 two-slashes : (ends : Bool) (byte : ℕ) (bytes : Bytes) (m : ℕ) → byte ≡ 47 → get_or bytes 0 0 ≡ 47 → Reaches ends false (byte ∷ bytes) m (prefix_len is_in_line (byte ∷ bytes))
 two-slashes ends byte [] m first second = absurd (omega (arith, second))
 two-slashes ends byte (next ∷ bytes) m first second =
     subst (λ (b : ℕ). Reaches ends false (b ∷ next ∷ bytes) m (prefix_len is_in_line (b ∷ next ∷ bytes))) (sym first)
     (subst (λ (b : ℕ). Reaches ends false (47 ∷ b ∷ bytes) m (prefix_len is_in_line (47 ∷ b ∷ bytes))) (sym second) (comment-gap ends bytes m))
 
+-- a blank is a gap
 blank-gap : (ends : Bool) (byte : ℕ) (bytes : Bytes) (m : ℕ) → is_blank byte ≡ true → Reaches ends false (byte ∷ bytes) m 1
 unfolding Reaches
 blank-gap ends byte bytes m blank gap end =
@@ -98,8 +105,9 @@ front-gap ends (byte ∷ bytes) m some =
     (λ _ none. absurd (omega arith)))
     some
 
-omega-same : (text : Bytes) (at n from : ℕ) → from - (at + n) ≡ 0 → at + n ≤ from → from + 0 ≡ at + n
-omega-same text at n from close after = omega arith
+-- a token that stands right behind a gap
+close-places : (at n from : ℕ) → from - (at + n) ≡ 0 → at + n ≤ from → from + 0 ≡ at + n
+close-places at n from close after = omega arith
 
 -- tokens behind a gap are tokens with the gap before them
 gap-before : (text : Bytes) (at n : ℕ) (tokens : List Token) → n ≡ gap_length (drop at text) → 0 < n → at + n ≤ length text → AreTokensFrom text (at + n) tokens → AreTokensFrom text at tokens
@@ -121,7 +129,7 @@ gap-before text at n (token ∷ tokens) is some inside (after, full, fits, gap, 
     let shorter : n < length rest = omega (arith, length-drop at text) in
     let first : m ≡ 0 → get_or rest n 0 ≢ 10 = λ close e.
     HasForm-first token.kind (take size (drop from text)) form
-    (get_or-take size (drop from text) 0 0 (omega arith) ∙ get_or-drop from text 0 0 ∙ ap (λ i. get_or text i 0) (omega-same text at n from close after) ∙ sym (get_or-drop at text n 0) ∙ e) in
+    (get_or-take size (drop from text) 0 0 (omega arith) ∙ get_or-drop from text 0 0 ∙ ap (λ i. get_or text i 0) (close-places at n from close after) ∙ sym (get_or-drop at text n 0) ∙ e) in
     (omega arith, full, fits, subst (λ (k : ℕ). is_gap false false (take k rest) ≡ true) same (reach behind (inr (shorter, first))), form, longest, more)
 
 -- the longest piece at a place is the longest from there on
@@ -146,13 +154,13 @@ piece-before : (text : Bytes) (at : ℕ) (tokens : List Token) (piece : Piece) �
     at < length text → piece ≡ piece_of (drop at text) → tokens_behind (drop at text) 0 at ≡ Ok tokens → AreTokensFrom text at tokens
 piece-before text at tokens (Gap n) more inside is read =
     let rest = drop at text in
-    let within : IsWithin (length rest) (Gap n) = subst (IsWithin (length rest)) (sym is) (piece_of_within rest (omega (arith, length-drop at text))) in
+    let within : IsWithin (length rest) (Gap n) = subst (IsWithin (length rest)) (sym is) (piece_of-within rest (omega (arith, length-drop at text))) in
     let fits : n ≡ gap_length rest = subst (PieceFits rest) (sym is) (piece_of-fits rest) in
     let few : at + n ≤ length text = omega (arith, within.1, length-drop at text) in
     gap-before text at n tokens fits within.0 few (more (at + n) tokens (omega (arith, within.0)) few (sym (behind-Gap text at n inside is within.0) ∙ read))
 piece-before text at tokens (Lexeme k n) more inside is read =
     let rest = drop at text in
-    let within : IsWithin (length rest) (Lexeme k n) = subst (IsWithin (length rest)) (sym is) (piece_of_within rest (omega (arith, length-drop at text))) in
+    let within : IsWithin (length rest) (Lexeme k n) = subst (IsWithin (length rest)) (sym is) (piece_of-within rest (omega (arith, length-drop at text))) in
     let form : HasForm k (take n rest) = subst (PieceFits rest) (sym is) (piece_of-fits rest) in
     let longest : IsLongestPiece rest (Lexeme k n) = subst (IsLongestPiece rest) (sym is) (piece_of-longest rest (omega (arith, length-drop at text))) in
     let few : at + n ≤ length text = omega (arith, within.1, length-drop at text) in
@@ -163,6 +171,7 @@ piece-before text at tokens Wide more inside is read =
 piece-before text at tokens Bad more inside is read =
     let e : Err (BadByte at) ≡ Ok tokens = sym (behind-Bad text at inside is) ∙ read in absurd (cc)
 
+-- behind the end there are no tokens
 at-end : (text : Bytes) (at : ℕ) (tokens : List Token) → length text ≤ at → tokens_behind (drop at text) 0 at ≡ Ok tokens → AreTokensFrom text at tokens
 at-end text at [] past read = rw (drop_all at text past) refl
 at-end text at (token ∷ tokens) past read = let e : Ok [] ≡ Ok (token ∷ tokens) = sym (behind-end text at past) ∙ read in absurd (cc)
@@ -174,6 +183,7 @@ tokens_behind-reads (suc left) text at tokens few read =
     ⊎_elim (λ inside. piece-before text at tokens (piece_of (drop at text)) (λ to behind later fits rest. tokens_behind-reads left text to behind (omega arith) rest) inside refl read)
     (λ past. at-end text at tokens past read) (cases_lt at (length text))
 
+-- the tokens of a text are slices of it in order, with gaps between them
 pub tokens_of-reads : (text : Bytes) (tokens : List Token) → tokens_of text ≡ Ok tokens → AreTokensFrom text 0 tokens
 unfolding tokens_of
 tokens_of-reads text tokens read =

@@ -1,11 +1,13 @@
 -- What the tokens of a text are, apart from how they are found: slices of the text in order, with gaps between them.
-use Rattle.std.specs.Prelude.{◌≡◌, ℕ, ◌^◌, ◌<◌, ◌≤◌, Bool, true, false, not, ◌&&◌, ◌||◌, ◌==◌, List, [], ◌∷◌, ◌++◌, length, drop, Some, IsTrue, if◌then◌else◌}
+use Rattle.std.specs.Prelude.{◌≡◌, ℕ, ◌^◌, ◌<◌, ◌≤◌, Bool, true, false, not, ◌&&◌, ◌||◌, ◌==◌, List, [], ◌∷◌, ◌++◌, length, drop, Some, IsTrue, slice_index, if◌then◌else◌}
 use Rattle.std.specs.List.{list_all, slice_range}
 use Rattle.rely_num.specs.Texts.{Bytes, is_digit, is_name}
 use Rattle.rely_num.specs.AttoTexts.{number_of}
 use Rattle.rely_lexer.specs.declared.token.Token.{Token}
 use Rattle.rely_lexer.specs.declared.token.TokenKind.{TokenKind}
 use Rattle.rely_lexer.specs.declared.token.TokenKind.TheVariants as kind
+use Rattle.rely_lexer.specs.declared.token.LexFault.{LexFault}
+use Rattle.rely_lexer.specs.declared.token.LexFault.TheVariants as fault
 use Rattle.rely_lexer.specs.Forms.{word_of, operator_of, is_mark}
 use Rattle.rely_lexer.specs.Tokens.{is_blank, begins_comment}
 
@@ -38,3 +40,11 @@ AreTokensFrom text place [] = IsTrue (is_gap true false (drop place text))
 AreTokensFrom text place (token ∷ tokens) =
     (place ≤ token.span.from) × (token.span.from < token.span.to) × (token.span.to ≤ length text) × IsTrue (is_gap false false (slice_range text place token.span.from))
     × HasForm token.kind (slice_range text token.span.from token.span.to) × IsLongest text token.span.from token.span.to × AreTokensFrom text token.span.to tokens
+
+-- why a text is refused: it is too long; or at the place no token and no blank begins; or digits begin there whose number is above 2^63 - 1
+abbrev pub IsCause : Bytes → LexFault → Type 0
+IsCause text fault.TooLong = 65536 < length text
+IsCause text (fault.BadByte place) =
+    (place < length text) × (is_blank (slice_index text place) ≡ false) × ((end : ℕ) (k : TokenKind) → place < end → end ≤ length text → HasForm k (slice_range text place end) → ⊥)
+IsCause text (fault.NumberWide place) = (end : ℕ) × (place < end) × (end ≤ length text) × AreDigits (slice_range text place end) × (2 ^ 63 ≤ number_of (slice_range text place end))
+IsCause text fault.Memory = Unit {0}

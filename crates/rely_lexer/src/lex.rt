@@ -1,7 +1,7 @@
 // The tokens of a text.
 ghost use Rattle.std.specs.Prelude.{◌≡◌, ◌≤◌, ◌⊎◌, length, IfOk, IfErr, Ok, Err};
 ghost use Rattle.rely_lexer.specs.Tokens.{tokens_behind, tokens_of, token_at};
-ghost use Rattle.rely_lexer.specs.Readings.{AreTokensFrom};
+ghost use Rattle.rely_lexer.specs.Readings.{AreTokensFrom, IsCause};
 
 use crate::front::piece_of;
 use crate::piece::Piece;
@@ -50,11 +50,12 @@ fn tokens_in(alloc: Global, text: &[u8]) -> Result<Vec<Token>, LexFault>
 /// The tokens of a text, or why there are none: `TooLong` above 65,536 bytes, and
 /// else the first place where a byte begins no token or a number is too wide.
 /// `Memory` comes only where an allocation fails.
-#[tactic(auto, using(crate::proofs::ReadingLaws::reads), unfolding(crate::specs::Tokens::tokens_of))]
+#[tactic(auto, using(crate::proofs::ReadingLaws::reads, crate::proofs::RefusalLaws::causes), unfolding(crate::specs::Tokens::tokens_of))]
 pub fn tokens(alloc: Global, text: &[u8]) -> Result<Vec<Token>, LexFault>
     ensures ok { IfOk result (λ v. tokens_of text.now ≡ Ok v.items) }
     ensures reads { IfOk result (λ v. AreTokensFrom text.now 0 v.items) }
     ensures err { IfErr result (λ e. (e ≡ LexFault.Memory) ⊎ (tokens_of text.now ≡ Err e)) }
+    ensures cause { IfErr result (λ e. IsCause text.now e) }
 {
     if text.len() > MOST_BYTES {
         return Err(LexFault::TooLong);
