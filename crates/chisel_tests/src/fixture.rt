@@ -25,7 +25,7 @@ pub(crate) const HARDWARE: &[u8] = b"{\"base\":\"0.999\",\"operators\":[
 
 /// How a run ended, and what it wrote.
 #[derive(Debug, Drop)]
-pub(crate) struct Ran {
+pub(crate) struct Ended {
     pub(crate) status: Status,
     pub(crate) text: Vec<u8>,
 }
@@ -64,7 +64,7 @@ pub(crate) fn ran(
     source: &[u8],
     hardware: &[u8],
     failing: Failing,
-) -> Result<Ran, AllocError> {
+) -> Result<Ended, AllocError> {
     let words = arguments(alloc, words)?;
     let mut files = Vec::new(alloc);
     files.push((bytes(alloc, b"s")?, bytes(alloc, source)?))?;
@@ -74,7 +74,7 @@ pub(crate) fn ran(
     let mut sink = MemSink::new(alloc, List::from_vec(puts));
     sink.reserve(400)?;
     let status = run(alloc, words.as_slice(), &mut shelf, &mut sink);
-    Ok(Ran {
+    Ok(Ended {
         status,
         text: Vec::from_slice(alloc, sink.bytes())?,
     })

@@ -1,12 +1,12 @@
 //! Fetches and puts that fail.
 
-use crate::fixture::{ADD, HARDWARE, Ran, never, ran};
+use crate::fixture::{ADD, Ended, HARDWARE, never, ran};
 use chisel_top::Status;
 use std::alloc::{AllocError, Global};
 use std::test::Fail;
 
 /// The run on the sum whose put of that number takes so many bytes and fails.
-fn cut(alloc: Global, words: &[&str], put: u64, taken: usize) -> Result<Ran, AllocError> {
+fn cut(alloc: Global, words: &[&str], put: u64, taken: usize) -> Result<Ended, AllocError> {
     let mut failing = never(alloc);
     failing.puts.push((put, taken))?;
     ran(alloc, words, ADD, HARDWARE, failing)
@@ -41,8 +41,16 @@ fn a_put_fails(rt: HostRuntime) -> Result<(), Fail> {
                 let done = cut(alloc, &words, put as u64 + 1, taken)?;
                 let mut text = Vec::from_slice(alloc, front.as_slice())?;
                 text.extend_from_slice(&piece[..taken])?;
-                assert_eq!(rt; done.text.as_slice(), text.as_slice(), "put {put} after {taken} bytes");
-                assert_eq!(rt; done.status, Status::WriteFault, "put {put} after {taken} bytes");
+                assert_eq!(rt;
+                    done.text.as_slice(),
+                    text.as_slice(),
+                    "put {put} after {taken} bytes"
+                );
+                assert_eq!(rt;
+                    done.status,
+                    Status::WriteFault,
+                    "put {put} after {taken} bytes"
+                );
             }
             front.extend_from_slice(piece)?;
         }

@@ -66,13 +66,19 @@ fn refusals(rt: HostRuntime) -> Result<(), Fail> {
     let words = ["verify", "s", "hw.json", "add"];
     let long = vec![in alloc; b' '; 65_537]?;
     let done = ran(alloc, &words, long.as_slice(), HARDWARE, never(alloc))?;
-    assert_eq!(rt; done.text.as_slice(), b"fault limit length s 65536\n".as_slice());
+    assert_eq!(rt;
+        done.text.as_slice(),
+        b"fault limit length s 65536\n".as_slice()
+    );
     assert_eq!(rt; done.status, Status::Limit);
     let done = ran(alloc, &["verify", "s"], ADD, HARDWARE, never(alloc))?;
     assert_eq!(rt; done.text.as_slice(), b"fault words\n".as_slice());
     assert_eq!(rt; done.status, Status::Words);
     let done = ran(alloc, &words, ADD, b"{}", never(alloc))?;
-    assert_eq!(rt; done.text.as_slice(), b"fault hardware missing base 0 0\n".as_slice());
+    assert_eq!(rt;
+        done.text.as_slice(),
+        b"fault hardware missing base 0 0\n".as_slice()
+    );
     assert_eq!(rt; done.status, Status::Text);
     Ok(())
 }

@@ -160,3 +160,7 @@ pub path_whole : (k : Kernel) (e : Ex) (counts : List ℕ) (used : Conj) → IsO
 path_whole k e counts used is returns counts_are used_is =
     let simple : IsSimple (expr_of e) = subst IsSimple (same_return k is.returned e is.returns returns) is.simple in
     rw (used_is, counts_are) (used_whole k (expr_of e) (empty k) simple (empty_low k))
+
+-- the one path has a count for each label
+pub path_counted : (k : Kernel) → IsOneReturn k → (c : Conj) × (paths_of k 63 ≡ c ∷ []) × (length c.counts ≡ labels_of k)
+path_counted k is = (at_start k (use_of k (expr_of is.returned) (empty k)), one_path k is.returned is.returns, used_whole k (expr_of is.returned) (empty k) is.simple (empty_low k))

@@ -1,5 +1,5 @@
 -- The one claim of a kernel of the first path, judged.
-use Rattle.std.proofs.Common.{◌≡◌, ℕ, List, [], ◌∷◌, ◌++◌, get_or, map, Option, Some, None, refl, sym, ap, subst, ◌∙◌, append-nil}
+use Rattle.std.proofs.Common.{◌≡◌, List, [], ◌∷◌, get_or, map, Option, Some, None, sym, ap, ◌∙◌, append-nil}
 use Rattle.std.specs.Option.{SomeIff}
 use Rattle.rely_num.specs.declared.conj.Conj.{Conj}
 use Rattle.rely_hard.specs.declared.hardware.Hardware.{Hardware}

@@ -1,16 +1,16 @@
 -- What the outcome of a command and its telling promise of the whole run.
-use Rattle.std.proofs.Common.{◌≡◌, ℕ, true, false, List, [], ◌∷◌, ◌++◌, map, Option, Some, None, Result, Ok, Err, refl, sym, ap, subst, ◌∙◌, append_assoc, ◌⊎◌, inl, inr}
+use Rattle.std.proofs.Common.{◌≡◌, ℕ, true, false, List, [], ◌∷◌, ◌++◌, map, Option, Some, None, Result, Ok, Err, refl, sym, ap, subst, ◌∙◌, append_assoc, inl, inr}
 use Rattle.std.specs.Prelude.{Bool, if◌then◌else◌}
 use Rattle.rely_num.specs.Texts.{Bytes}
 use Rattle.rely_hard.specs.declared.hardware.Hardware.{Hardware}
 use Rattle.rely_kernel.specs.declared.kernel.Kernel.{Kernel}
-use Rattle.chisel_outside.specs.Outside.{Log, Rose}
+use Rattle.chisel_outside.specs.Outside.{Log}
 use Rattle.chisel_top.specs.declared.fault.Fault.TheVariants as fault
 use Rattle.chisel_top.specs.declared.fault.Written.{Written}
 use Rattle.chisel_top.specs.declared.fault.Fault.{Fault}
 use Rattle.chisel_top.specs.declared.status.Status.{Status}
 use Rattle.chisel_top.specs.declared.status.Status.TheVariants as status
-use Rattle.chisel_top.specs.Findings.{Files, Finding, NoForm, Unread, TooLong, NotYet, Unfit, Judged, finding, text_of, status_of, status_on, verdict_on, words_line, read_line, memory_line}
+use Rattle.chisel_top.specs.Findings.{Files, Finding, NoForm, Unread, TooLong, NotYet, Unfit, Judged, finding, status_of, status_on, verdict_on, read_line, memory_line}
 use Rattle.chisel_top.specs.Promises.{Tells, Wrote, WroteFront, Counts, FailedLast, FetchesInOrder, IsCause, IsOwed, EndsWithoutForm, IsReport, is_marked, outcome_text, outcome_status}
 use Rattle.chisel_top.specs.Statuses.{IsFree}
 use Rattle.chisel_top.specs.Steps.{Agrees, IsAsked, IsForm, IsGrade, Marks, Fetching}

@@ -1,5 +1,5 @@
 -- Pieces that are put one after the other, step by step.
-use Rattle.std.proofs.Common.{◌≡◌, ℕ, ◌+◌, ◌<◌, ◌||◌, Bool, true, false, nat_lt, List, [], ◌∷◌, ◌++◌, length, get_or, take, drop, Option, Some, None, option_map, refl, sym, ap, ◌∙◌, append_assoc, append-nil, arith, Bor, inl, inr}
+use Rattle.std.proofs.Common.{◌≡◌, ℕ, ◌+◌, ◌<◌, ◌||◌, Bool, false, nat_lt, List, [], ◌++◌, length, get_or, take, drop, Option, Some, None, option_map, refl, sym, ap, ◌∙◌, append_assoc, append-nil, Bor, inr}
 use Rattle.std.proofs.lemmas.List.{drop_more, take-append-drop}
 use Rattle.rely_num.specs.Texts.{Bytes}
 use Rattle.std.specs.Prelude.{codes, decimal}
@@ -12,7 +12,7 @@ use Rattle.chisel_outside.specs.declared.sink.Put.TheVariants.{All, Failed}
 use Rattle.chisel_top.specs.declared.status.Status.{Status}
 use Rattle.chisel_top.specs.declared.status.Status.TheVariants as status
 use Rattle.chisel_top.specs.Findings.{why_text, key_text, hard_line}
-use Rattle.chisel_top.specs.Promises.{Wrote, WroteFront}
+use Rattle.chisel_top.specs.Promises.{Wrote}
 use Rattle.chisel_top.specs.Telling.{joined, Delivers}
 
 -- the first piece of the rest

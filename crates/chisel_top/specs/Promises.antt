@@ -1,5 +1,5 @@
 -- What the top call promises: of the log, of the sink, of the status and of accepted claims.
-use Rattle.std.specs.Prelude.{ℕ, ◌≡◌, Bool, true, false, List, [], ◌∷◌, ◌++◌, map, Option, Some, option_map, Result, Ok, Err, ◌⊎◌, IsTrue, Contains}
+use Rattle.std.specs.Prelude.{ℕ, ◌≡◌, Bool, true, false, List, [], ◌∷◌, ◌++◌, map, Option, Some, option_map, Result, Ok, Err, ◌⊎◌, Contains}
 use Rattle.std.specs.List.{list_any}
 use Rattle.rely_num.specs.Texts.{Bytes}
 use Rattle.chisel_outside.specs.Outside.{Log, Rose}
@@ -10,7 +10,10 @@ use Rattle.rely_kernel.specs.declared.kernel.Kernel.{Kernel}
 use Rattle.rely_kernel.specs.declared.kernel.Linked.{Linked}
 use Rattle.rely_kernel.specs.Bound.{BoundHolds}
 use Rattle.rely_kernel.specs.Machine.{functions, main}
-use Rattle.rely_kernel.specs.Rates.{rate, own, settings}
+use Rattle.rely_kernel.specs.Paths.{paths_of}
+use Rattle.rely_kernel.specs.Rates.{rate, rates, own, settings}
+use Rattle.rely_predicate.specs.Top.{top}
+use Rattle.rely_verdict.specs.Judged.{IsNear}
 use Rattle.rely_verdict.specs.declared.verdict.Verdict.TheVariants.{Accepted}
 use Rattle.chisel_top.specs.declared.fault.Fault.{Fault}
 use Rattle.chisel_top.specs.declared.fault.Fault.TheVariants as fault
@@ -18,7 +21,6 @@ use Rattle.chisel_top.specs.declared.fault.Written.{Written}
 use Rattle.chisel_top.specs.declared.status.Status.{Status}
 use Rattle.chisel_top.specs.declared.status.Status.TheVariants as status
 use Rattle.chisel_top.specs.Findings.{Files, Finding, NoForm, TooLong, NotYet, Unfit, Judged, finding, text_of, status_of, status_on, verdict_on, words_line, read_line, length_line, notyet_line, hard_line, memory_line}
-use Rattle.chisel_top.specs.Statuses.{IsFree}
 use Rattle.chisel_top.specs.Words.{form, files_of}
 
 -- ---- the outside
@@ -122,9 +124,17 @@ outcome_status (Err f) = fault_status f
 abbrev pub alone : Kernel → Linked
 alone k = record { kernel = k; inner = [] }
 
+-- a fact of the kernel that is judged, and of its hardware
+abbrev pub OnJudged : (Hardware → Kernel → Type 0) → Finding → Type 0
+OnJudged P (Judged h k) = P h k
+OnJudged P _ = Unit {0}
+
 -- in every forest of runs of the kernel on this hardware the bound of each accepted claim holds
-abbrev pub AcceptedHold : Finding → Type 0
-AcceptedHold (Judged h k) =
+abbrev pub AcceptedHold : Hardware → Kernel → Type 0
+AcceptedHold h k =
     (c : Claim) (lo : ℕ) → Contains k.claims c → verdict_on h k c ≡ Accepted lo
     → BoundHolds (functions (alone k)) (rate h (functions (alone k)) (settings (alone k) (own k))) k (main (alone k)) c
-AcceptedHold _ = Unit {0}
+
+-- the bound of each undecided claim lies between two products that are near each other
+abbrev pub UndecidedNear : Hardware → Kernel → Type 0
+UndecidedNear h k = (c : Claim) → Contains k.claims c → IsNear (rates h k (own k)) c.bound (top (paths_of k c.target)) (verdict_on h k c)

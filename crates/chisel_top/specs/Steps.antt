@@ -1,5 +1,5 @@
 -- What the steps of a command give, for the contracts of its private parts.
-use Rattle.std.specs.Prelude.{ℕ, ◌≡◌, false, List, [], ◌∷◌, ◌++◌, Option, Some, None, Result, Ok, Err, true}
+use Rattle.std.specs.Prelude.{◌≡◌, false, List, [], ◌∷◌, ◌++◌, Option, Some, None, Result, Ok, Err, true}
 use Rattle.std.specs.Borrow.{Bor}
 use Rattle.rely_num.specs.Texts.{Bytes}
 use Rattle.rely_hard.specs.declared.fault.HardFault.{HardFault}

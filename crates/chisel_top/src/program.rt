@@ -3,7 +3,7 @@
 ghost use Rattle.std.specs.Prelude.{◌≡◌, ◌⊎◌, List, ℕ, None, false};
 ghost use Rattle.rely_num.specs.Texts.{Bytes};
 ghost use Rattle.chisel_top.specs.Findings.{Files, finding, memory_line, read_line};
-ghost use Rattle.chisel_top.specs.Promises.{AcceptedHold, Counts, EndsWithoutForm, FailedLast, FetchesInOrder, IsCause, IsOwed, IsReport, Tells, Wrote, WroteFront};
+ghost use Rattle.chisel_top.specs.Promises.{AcceptedHold, Counts, EndsWithoutForm, FailedLast, FetchesInOrder, IsCause, IsOwed, IsReport, OnJudged, Tells, UndecidedNear, Wrote, WroteFront};
 ghost use Rattle.chisel_top.specs.Statuses.{IsFree};
 ghost use Rattle.chisel_top.specs.Steps.{Agrees, Fetching, IsForm};
 ghost use Rattle.chisel_top.specs.Words.{files_of, form};
@@ -54,7 +54,8 @@ pub fn run<F: Shelf, K: Sink>(alloc: Global, words: &[Arg], shelf: &mut F, sink:
 
     // What is written, and what an accepted line promises.
     ensures report { (files : Files) → Tells (F.held shelf.old) files → (IsFree result → ⊥) → IsReport (finding words.now files) (K.written sink.old) (K.written sink.new) result }
-    ensures headline { (files : Files) → Tells (F.held shelf.old) files → AcceptedHold (finding words.now files) }
+    ensures undecided { (files : Files) → Tells (F.held shelf.old) files → OnJudged UndecidedNear (finding words.now files) }
+    ensures headline { (files : Files) → Tells (F.held shelf.old) files → OnJudged AcceptedHold (finding words.now files) }
 {
     let outcome = outcome(alloc, words, shelf);
     tell(sink, &outcome)

@@ -1,4 +1,4 @@
-use Rattle.chisel_top.proofs.Headline.{accepted_hold}
+use Rattle.chisel_top.proofs.Headline.{accepted_hold, undecided_near}
 use Rattle.chisel_top.proofs.Runs.{run_counts, run_log, run_words, run_no_form, run_read_fault, run_memory, run_write_fault, run_report, run_causes}
 use Rattle.chisel_top.proofs.program.run.Goals as goal
 
@@ -31,3 +31,6 @@ returns-clause-report g c = run_report c.args.words.now _ _ _ _ _ _ _ _ _ c.outc
 
 pub returns-clause-headline : goal.returns-clause-headline
 returns-clause-headline g c = λ files tells. accepted_hold c.args.words.now files
+
+pub returns-clause-undecided : goal.returns-clause-undecided
+returns-clause-undecided g c = λ files tells. undecided_near c.args.words.now files
