@@ -4,7 +4,7 @@ use Rattle.std.specs.List.{list_all, zip}
 use Rattle.std.proofs.lemmas.Iterator.{YieldsList-from_slice, YieldsList-from_zip}
 use Rattle.std.proofs.lemmas.Iterator.Search.{all_from_yields_List}
 use lib.Pointwise.{pointwise}
-use Rattle.rely_predicate.proofs.at_least.Goals as goal
+use Rattle.rely_predicate.proofs.compare.at_least.Goals as goal
 
 -- the pairs all pass where the lists do, one by one
 pairs_pass : (ms ns : List ℕ) → length ms ≡ length ns → list_all (λ (q : ℕ × ℕ). nat_le q.0 q.1) (zip ms ns) ≡ pointwise nat_le ms ns
