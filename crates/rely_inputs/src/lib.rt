@@ -7,6 +7,8 @@ mod fault;
 mod file;
 mod place;
 mod sample;
+#[cfg(test)]
+mod tests;
 
 pub use fault::{InputFault, InputWhy};
 pub use file::read;
