@@ -1,0 +1,4 @@
+pub mod Lists
+pub mod Read64
+pub mod Starts
+pub mod Utf8
