@@ -1,0 +1,5 @@
+pub mod State
+pub mod Grammar
+pub mod Statements
+pub mod Declarations
+pub mod Units

@@ -1,0 +1,13 @@
+//! The parser: from the tokens of a source to its tree.
+#![tactic(auto)]
+
+mod decl;
+mod expr;
+mod fault;
+mod leaf;
+mod rest;
+mod stmt;
+mod unit;
+
+pub use fault::ParseFault;
+pub use unit::parse;

@@ -1,0 +1,160 @@
+// Functions, and the whole source.
+ghost use Rattle.std.specs.Prelude.{◌≡◌, ◌<◌, ◌≤◌, ◌+◌, ◌⊎◌, length, map, Some, None, IfOk, IfErr, false};
+ghost use Rattle.rely_tree.specs.Shape.{stmt_shape, block_shape, func_shape, unit_shape};
+ghost use Rattle.rely_parser.specs.State.{state_of, is_memory};
+ghost use Rattle.rely_parser.specs.Units.{last_at, body_at, function_at, functions_at, unit_of};
+
+use crate::decl::{claims, locals, params};
+use crate::expr::expr;
+use crate::fault::ParseFault;
+use crate::leaf::name;
+use crate::rest::{Rest, first, place, skip, skip_word};
+use crate::stmt::stmt;
+use bumpalo::Bump;
+use bumpalo::collections::into_bump_slice;
+use rely_lexer::{Token, Word};
+use rely_num::Span;
+use rely_tree::{Func, Stmt, Unit};
+use std::alloc::Global;
+
+/// The most brackets that may be open inside a body, beside the body's own.
+const MOST_INSIDE: u32 = 63;
+/// The most functions of a source.
+const MOST_FUNCTIONS: usize = 64;
+/// The most variables of a function.
+const MOST_VARIABLES: u32 = 63;
+/// The most operators of a function.
+const MOST_OPERATORS: u32 = 256;
+/// The most calls of a function.
+const MOST_CALLS: u32 = 256;
+
+/// What is behind the word `return`, which stands at `span`, up to the end of the body.
+#[tactic(auto, using(rely_tree::proofs::Shapes::shapes), unfolding(crate::specs::Units::last_at))]
+fn last<'a, 't>(
+    arena: &'a Bump,
+    text: &'a [u8],
+    at: Rest<'t>,
+    span: Span,
+) -> Result<(Stmt<'a>, Rest<'t>), ParseFault>
+    ensures ok { IfOk result (λ r. last_at text.now span (state_of at.entry) ≡ Some (stmt_shape r.0, state_of r.1)) }
+    ensures shorter { IfOk result (λ r. length r.1.toks.now < length at.entry.toks.now) }
+    ensures err { IfErr result (λ e. is_memory e ≡ false → last_at text.now span (state_of at.entry) ≡ None) }
+{
+    let (value, rest) = expr(arena, text, at, MOST_INSIDE)?;
+    let rest = skip(text, rest, b';')?;
+    let rest = skip(text, rest, b'}')?;
+    Ok((Stmt::Return(span, value), rest))
+}
+
+/// The statements of a body behind its variables.
+fn body<'a, 't>(
+    arena: &'a Bump,
+    text: &'a [u8],
+    at: Rest<'t>,
+) -> Result<(&'a [Stmt<'a>], Rest<'t>), ParseFault>
+    ensures ok { IfOk result (λ r. body_at text.now (state_of at.entry) ≡ Some (block_shape r.0.now, state_of r.1)) }
+    ensures shorter { IfOk result (λ r. length r.1.toks.now < length at.entry.toks.now) }
+    ensures err { IfErr result (λ e. is_memory e ≡ false → body_at text.now (state_of at.entry) ≡ None) }
+{
+    let mut all = Vec::new(arena);
+    let mut rest = at;
+    loop {
+        if let Ok(after) = skip_word(text, rest, Word::Return) {
+            let (token, _) = first(text, rest)?;
+            let (one, after) = last(arena, text, after, token.span)?;
+            all.push(one)?;
+            return Ok((into_bump_slice(all), after));
+        }
+        let (one, after) = stmt(arena, text, rest, MOST_INSIDE)?;
+        all.push(one)?;
+        rest = after;
+    }
+}
+
+/// What is behind the word `fn`.
+#[tactic(auto, unfolding(crate::specs::Units::function_at))]
+fn function<'a, 't>(
+    arena: &'a Bump,
+    text: &'a [u8],
+    at: Rest<'t>,
+) -> Result<(Func<'a>, Rest<'t>), ParseFault>
+    ensures ok { IfOk result (λ r. function_at text.now (state_of at.entry) ≡ Some (func_shape r.0, state_of r.1)) }
+    ensures shorter { IfOk result (λ r. length r.1.toks.now < length at.entry.toks.now) }
+    ensures err { IfErr result (λ e. is_memory e ≡ false → function_at text.now (state_of at.entry) ≡ None) }
+{
+    let rest = Rest {
+        toks: at.toks,
+        variables: MOST_VARIABLES,
+        operators: MOST_OPERATORS,
+        calls: MOST_CALLS,
+    };
+    let (name, rest) = name(text, rest)?;
+    let rest = skip(text, rest, b'(')?;
+    let (params, rest) = params(arena, text, rest)?;
+    let (claims, rest) = claims(arena, text, rest)?;
+    let rest = skip(text, rest, b'{')?;
+    let (locals, rest) = locals(arena, text, rest)?;
+    let (body, rest) = body(arena, text, rest)?;
+    let read = Func {
+        name,
+        params,
+        locals,
+        claims,
+        body,
+    };
+    Ok((
+        read,
+        Rest {
+            toks: rest.toks,
+            ..at
+        },
+    ))
+}
+
+/// The functions of a source.
+fn functions<'a, 't>(
+    arena: &'a Bump,
+    text: &'a [u8],
+    at: Rest<'t>,
+) -> Result<(&'a [Func<'a>], Rest<'t>), ParseFault>
+    ensures ok { IfOk result (λ r. functions_at text.now (state_of at.entry) ≡ Some (map func_shape r.0.now, state_of r.1)) }
+    ensures err { IfErr result (λ e. is_memory e ≡ false → functions_at text.now (state_of at.entry) ≡ None) }
+{
+    let mut all = Vec::new(arena);
+    let start = skip_word(text, at, Word::Fn)?;
+    let (one, mut rest) = function(arena, text, start)?;
+    all.push(one)?;
+    while let Ok(after) = skip_word(text, rest, Word::Fn) {
+        if all.len() >= MOST_FUNCTIONS {
+            return Err(ParseFault::Many(place(text, rest)));
+        }
+        let (one, after) = function(arena, text, after)?;
+        all.push(one)?;
+        rest = after;
+    }
+    Ok((into_bump_slice(all), rest))
+}
+
+/// The tree of a source, or the first place where its tokens leave the grammar or a limit.
+#[tactic(auto, unfolding(crate::specs::Units::unit_of))]
+pub fn parse<'a>(
+    _alloc: Global,
+    arena: &'a Bump,
+    text: &'a [u8],
+    toks: &[Token],
+) -> Result<Unit<'a>, ParseFault>
+    ensures ok { IfOk result (λ u. unit_of text.now toks.now ≡ Some (unit_shape u)) }
+    ensures err { IfErr result (λ e. (e ≡ ParseFault.Memory) ⊎ (unit_of text.now toks.now ≡ None)) }
+{
+    let start = Rest {
+        toks,
+        variables: 0,
+        operators: 0,
+        calls: 0,
+    };
+    let (functions, rest) = functions(arena, text, start)?;
+    if !rest.toks.is_empty() {
+        return Err(ParseFault::Expected(place(text, rest)));
+    }
+    Ok(Unit { functions })
+}
