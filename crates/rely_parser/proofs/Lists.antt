@@ -1,7 +1,9 @@
 -- Laws of the readers of lists with commas.
-use Rattle.std.proofs.Common.{◌≡◌, ℕ, zero, suc, ◌+◌, ◌-◌, ◌<◌, List, [], ◌∷◌, ◌++◌, length, map, Option, Some, None, refl, ap, ◌∙◌, arith}
+use Rattle.std.proofs.Common.{◌≡◌, ℕ, zero, suc, ◌+◌, ◌-◌, ◌<◌, List, [], ◌∷◌, ◌++◌, length, map, Ok, Err, refl, ap, arith}
 use Rattle.rely_num.specs.Texts.{Bytes}
-use Rattle.rely_parser.specs.State.{State, Read, ◌>>=◌, skip_at}
+use Rattle.rely_parser.specs.declared.fault.ParseFault.{ParseFault}
+use Rattle.rely_parser.specs.declared.fault.ParseFault.TheVariants as fault
+use Rattle.rely_parser.specs.State.{State, Reading, Read, ◌>>=◌, skip_at}
 use Rattle.rely_parser.specs.Grammar.{expr_at}
 use Rattle.rely_parser.specs.Statements.{more_of, list_of, args_at}
 
@@ -10,8 +12,8 @@ abbrev pub front : {A B : Type 0} → (A → B) → List A → List B → List B
 front f [] b = b
 front f (x ∷ xs) b = f x ∷ front f xs b
 
-abbrev pub with_front : {A B : Type 0} → (A → B) → List A → Option (List B × State) → Option (List B × State)
-with_front f xs o = o >>= λ y. Some (front f xs y.0, y.1)
+abbrev pub with_front : {A B : Type 0} → (A → B) → List A → Reading (List B × State) → Reading (List B × State)
+with_front f xs o = o >>= λ y. Ok (front f xs y.0, y.1)
 
 pub front-ended : {A B : Type 0} (f : A → B) (xs : List A) → front f xs [] ≡ map f xs
 front-ended f [] = refl
@@ -21,58 +23,58 @@ pub front-push : {A B : Type 0} (f : A → B) (xs : List A) (x : A) (b : List B)
 front-push f [] x b = refl
 front-push f (y ∷ xs) x b = ap (λ z. f y ∷ z) (front-push f xs x b)
 
-pub with_front-push : {A B : Type 0} (f : A → B) (xs : List A) (x : A) (o : Option (List B × State)) →
-    with_front f (xs ++ x ∷ []) o ≡ with_front f xs (o >>= λ y. Some (f x ∷ y.0, y.1))
-with_front-push f xs x None = refl
-with_front-push f xs x (Some y) = ap (λ b. Some (b, y.1)) (front-push f xs x y.0)
+pub with_front-push : {A B : Type 0} (f : A → B) (xs : List A) (x : A) (o : Reading (List B × State)) →
+    with_front f (xs ++ x ∷ []) o ≡ with_front f xs (o >>= λ y. Ok (f x ∷ y.0, y.1))
+with_front-push f xs x (Err e) = refl
+with_front-push f xs x (Ok y) = ap (λ b. Ok (b, y.1)) (front-push f xs x y.0)
 
-pub with_front-one : {A B : Type 0} (f : A → B) (x : A) (o : Option (List B × State)) →
-    with_front f ([] ++ x ∷ []) o ≡ (o >>= λ y. Some (f x ∷ y.0, y.1))
-with_front-one f x None = refl
-with_front-one f x (Some y) = refl
+pub with_front-one : {A B : Type 0} (f : A → B) (x : A) (o : Reading (List B × State)) →
+    with_front f ([] ++ x ∷ []) o ≡ (o >>= λ y. Ok (f x ∷ y.0, y.1))
+with_front-one f x (Err e) = refl
+with_front-one f x (Ok y) = refl
 
-pub list_of-end : {A : Type 0} (item : Read A) (s e : State) → skip_at 41 s ≡ Some e → list_of item s ≡ Some ([], e)
+pub list_of-end : {A : Type 0} (item : Read A) (s e : State) → skip_at 41 s ≡ Ok e → list_of item s ≡ Ok ([], e)
 unfolding list_of
 list_of-end item s e h = rw h refl
 
-pub list_of-none : {A : Type 0} (item : Read A) (s : State) → skip_at 41 s ≡ None → item s ≡ None → list_of item s ≡ None
+pub list_of-none : {A : Type 0} (item : Read A) (s : State) (m e : ParseFault) → skip_at 41 s ≡ Err m → item s ≡ Err e → list_of item s ≡ Err e
 unfolding list_of
-list_of-none item s h i = rw (h, i) refl
+list_of-none item s m e h i = rw (h, i) refl
 
-pub list_of-some : {A : Type 0} (item : Read A) (s : State) (x : A) (r : State) → skip_at 41 s ≡ None → item s ≡ Some (x, r) →
-    (more_of item (length r.toks + 1) r >>= λ y. Some (x ∷ y.0, y.1)) ≡ list_of item s
+pub list_of-some : {A : Type 0} (item : Read A) (s : State) (m : ParseFault) (x : A) (r : State) → skip_at 41 s ≡ Err m → item s ≡ Ok (x, r) →
+    (more_of item (length r.toks + 1) r >>= λ y. Ok (x ∷ y.0, y.1)) ≡ list_of item s
 unfolding list_of
-list_of-some item s x r h i = rw (h, i) refl
+list_of-some item s m x r h i = rw (h, i) refl
 
-pub more_of-end : {A : Type 0} (item : Read A) (n : ℕ) (s e : State) → 0 < n → skip_at 44 s ≡ None → skip_at 41 s ≡ Some e → more_of item n s ≡ Some ([], e)
+pub more_of-end : {A : Type 0} (item : Read A) (n : ℕ) (s : State) (m : ParseFault) (e : State) → 0 < n → skip_at 44 s ≡ Err m → skip_at 41 s ≡ Ok e → more_of item n s ≡ Ok ([], e)
 unfolding more_of
-more_of-end item zero s e l h i = absurd (omega arith)
-more_of-end item (suc n) s e l h i = rw (more_of, h, i) refl
+more_of-end item zero s m e l h i = absurd (omega arith)
+more_of-end item (suc n) s m e l h i = rw (more_of, h, i) refl
 
-pub more_of-bad : {A : Type 0} (item : Read A) (n : ℕ) (s : State) → skip_at 44 s ≡ None → skip_at 41 s ≡ None → more_of item n s ≡ None
+pub more_of-bad : {A : Type 0} (item : Read A) (n : ℕ) (s : State) (m e : ParseFault) → 0 < n → skip_at 44 s ≡ Err m → skip_at 41 s ≡ Err e → more_of item n s ≡ Err e
 unfolding more_of
-more_of-bad item zero s h i = refl
-more_of-bad item (suc n) s h i = rw (more_of, h, i) refl
+more_of-bad item zero s m e l h i = absurd (omega arith)
+more_of-bad item (suc n) s m e l h i = rw (more_of, h, i) refl
 
-pub more_of-none : {A : Type 0} (item : Read A) (n : ℕ) (s a : State) → skip_at 44 s ≡ Some a → item a ≡ None → more_of item n s ≡ None
+pub more_of-none : {A : Type 0} (item : Read A) (n : ℕ) (s a : State) (e : ParseFault) → 0 < n → skip_at 44 s ≡ Ok a → item a ≡ Err e → more_of item n s ≡ Err e
 unfolding more_of
-more_of-none item zero s a h i = refl
-more_of-none item (suc n) s a h i = rw (more_of, h, i) refl
+more_of-none item zero s a e l h i = absurd (omega arith)
+more_of-none item (suc n) s a e l h i = rw (more_of, h, i) refl
 
-pub more_of-more : {A : Type 0} (item : Read A) (n : ℕ) (s a : State) (x : A) (r : State) → 0 < n → skip_at 44 s ≡ Some a → item a ≡ Some (x, r) →
-    (more_of item (n - 1) r >>= λ y. Some (x ∷ y.0, y.1)) ≡ more_of item n s
+pub more_of-more : {A : Type 0} (item : Read A) (n : ℕ) (s a : State) (x : A) (r : State) → 0 < n → skip_at 44 s ≡ Ok a → item a ≡ Ok (x, r) →
+    (more_of item (n - 1) r >>= λ y. Ok (x ∷ y.0, y.1)) ≡ more_of item n s
 unfolding more_of
 more_of-more item zero s a x r l h i = absurd (omega arith)
 more_of-more item (suc n) s a x r l h i = let m : suc n - 1 ≡ n = omega arith in rw (m, more_of, h, i) refl
 
-pub args_at-zero : (text : Bytes) (d : ℕ) (s : State) → d ≡ 0 → args_at text d s ≡ None
+pub args_at-zero : (text : Bytes) (d p : ℕ) (s : State) → d ≡ 0 → args_at text d p s ≡ Err (fault.Deep p)
 unfolding args_at
-args_at-zero text zero s h = refl
-args_at-zero text (suc d) s h = absurd (omega arith)
+args_at-zero text zero p s h = refl
+args_at-zero text (suc d) p s h = absurd (omega arith)
 
-pub args_at-inside : (text : Bytes) (d : ℕ) (s : State) → 0 < d → args_at text d s ≡ list_of (expr_at text (d - 1)) s
+pub args_at-inside : (text : Bytes) (d p : ℕ) (s : State) → 0 < d → args_at text d p s ≡ list_of (expr_at text (d - 1)) s
 unfolding args_at
-args_at-inside text zero s h = absurd (omega arith)
-args_at-inside text (suc d) s h = let p : suc d - 1 ≡ d = omega arith in rw p refl
+args_at-inside text zero p s h = absurd (omega arith)
+args_at-inside text (suc d) p s h = let o : suc d - 1 ≡ d = omega arith in rw o refl
 
 pub ruleset lists = (args_at-zero, args_at-inside)

@@ -3,3 +3,4 @@ pub mod Grammar
 pub mod Statements
 pub mod Declarations
 pub mod Units
+pub mod Productions

@@ -1,5 +1,5 @@
 // Declarations and claims.
-ghost use Rattle.std.specs.Prelude.{◌≡◌, ◌<◌, ◌≤◌, ◌+◌, length, map, option_map, Some, None, IfOk, IfErr, false};
+ghost use Rattle.std.specs.Prelude.{◌≡◌, ◌<◌, ◌≤◌, ◌+◌, length, map, option_map, Ok, Err, IfOk, IfErr, false};
 ghost use Rattle.rely_tree.specs.Shape.{ident_shape, kind_shape, decl_shape, said_shape};
 ghost use Rattle.rely_parser.specs.State.{state_of, is_memory, name_at};
 ghost use Rattle.rely_parser.specs.Statements.{list_of};
@@ -17,9 +17,9 @@ use rely_tree::{Decl, Ident, Kind, Said};
 
 /// One variable less that may stand.
 fn one_variable<'t>(at: Rest<'t>, place: u32) -> Result<Rest<'t>, ParseFault>
-    ensures ok { IfOk result (λ r. one_variable (state_of at.entry) ≡ Some (state_of r)) }
+    ensures ok { IfOk result (λ r. one_variable place (state_of at.entry) ≡ Ok (state_of r)) }
     ensures same { IfOk result (λ r. length r.toks.now ≡ length at.entry.toks.now) }
-    ensures err { IfErr result (λ e. (is_memory e ≡ false) × (one_variable (state_of at.entry) ≡ None)) }
+    ensures err { IfErr result (λ e. one_variable place (state_of at.entry) ≡ Err e) }
 {
     if at.variables == 0 {
         return Err(ParseFault::Many(place));
@@ -31,14 +31,14 @@ fn one_variable<'t>(at: Rest<'t>, place: u32) -> Result<Rest<'t>, ParseFault>
 }
 
 /// The length of an array in its brackets, none for a scalar.
-fn array<'t>(text: &[u8], at: Rest<'t>) -> Result<(Option<u32>, Rest<'t>), ParseFault>
-    ensures ok { IfOk result (λ r. array_at (state_of at.entry) ≡ Some (r.0, state_of r.1)) }
+fn array<'t>(at: Rest<'t>) -> Result<(Option<u32>, Rest<'t>), ParseFault>
+    ensures ok { IfOk result (λ r. array_at (state_of at.entry) ≡ Ok (r.0, state_of r.1)) }
     ensures within { IfOk result (λ r. length r.1.toks.now ≤ length at.entry.toks.now) }
-    ensures err { IfErr result (λ e. (is_memory e ≡ false) × (array_at (state_of at.entry) ≡ None)) }
+    ensures err { IfErr result (λ e. array_at (state_of at.entry) ≡ Err e) }
 {
-    if let Ok(after) = skip(text, at, b'[') {
-        let (length, after) = length(text, after)?;
-        let after = skip(text, after, b']')?;
+    if let Ok(after) = skip(at, b'[') {
+        let (length, after) = length(after)?;
+        let after = skip(after, b']')?;
         return Ok((Some(length), after));
     }
     Ok((None, at))
@@ -46,11 +46,11 @@ fn array<'t>(text: &[u8], at: Rest<'t>) -> Result<(Option<u32>, Rest<'t>), Parse
 
 /// The memory that is written, the plain one for none.
 fn memory<'a, 't>(text: &'a [u8], at: Rest<'t>) -> Result<(Kind<'a>, Rest<'t>), ParseFault>
-    ensures ok { IfOk result (λ r. memory_at text.now (state_of at.entry) ≡ Some (kind_shape r.0, state_of r.1)) }
+    ensures ok { IfOk result (λ r. memory_at text.now (state_of at.entry) ≡ Ok (kind_shape r.0, state_of r.1)) }
     ensures within { IfOk result (λ r. length r.1.toks.now ≤ length at.entry.toks.now) }
-    ensures err { IfErr result (λ e. (is_memory e ≡ false) × (memory_at text.now (state_of at.entry) ≡ None)) }
+    ensures err { IfErr result (λ e. memory_at text.now (state_of at.entry) ≡ Err e) }
 {
-    if let Ok(after) = skip_word(text, at, Word::In) {
+    if let Ok(after) = skip_word(at, Word::In) {
         return choice(text, after);
     }
     Ok((Kind::Plain, at))
@@ -58,13 +58,13 @@ fn memory<'a, 't>(text: &'a [u8], at: Rest<'t>) -> Result<(Kind<'a>, Rest<'t>), 
 
 #[tactic(auto, unfolding(crate::specs::Declarations::decl_at))]
 fn variable<'a, 't>(text: &'a [u8], at: Rest<'t>) -> Result<(Decl<'a>, Rest<'t>), ParseFault>
-    ensures ok { IfOk result (λ r. decl_at text.now (state_of at.entry) ≡ Some (decl_shape r.0, state_of r.1)) }
+    ensures ok { IfOk result (λ r. decl_at text.now (state_of at.entry) ≡ Ok (decl_shape r.0, state_of r.1)) }
     ensures shorter { IfOk result (λ r. length r.1.toks.now < length at.entry.toks.now) }
-    ensures err { IfErr result (λ e. (is_memory e ≡ false) × (decl_at text.now (state_of at.entry) ≡ None)) }
+    ensures err { IfErr result (λ e. decl_at text.now (state_of at.entry) ≡ Err e) }
 {
     let (name, rest) = name(text, at)?;
     let rest = one_variable(rest, name.span.from)?;
-    let (length, rest) = array(text, rest)?;
+    let (length, rest) = array(rest)?;
     let (memory, rest) = memory(text, rest)?;
     Ok((
         Decl {
@@ -82,34 +82,34 @@ pub(crate) fn params<'a, 't>(
     text: &'a [u8],
     at: Rest<'t>,
 ) -> Result<(&'a [Decl<'a>], Rest<'t>), ParseFault>
-    ensures ok { IfOk result (λ r. list_of (decl_at text.now) (state_of at.entry) ≡ Some (map decl_shape r.0.now, state_of r.1)) }
+    ensures ok { IfOk result (λ r. list_of (decl_at text.now) (state_of at.entry) ≡ Ok (map decl_shape r.0.now, state_of r.1)) }
     ensures shorter { IfOk result (λ r. length r.1.toks.now < length at.entry.toks.now) }
-    ensures err { IfErr result (λ e. is_memory e ≡ false → list_of (decl_at text.now) (state_of at.entry) ≡ None) }
+    ensures err { IfErr result (λ e. is_memory e ≡ false → list_of (decl_at text.now) (state_of at.entry) ≡ Err e) }
 {
     let mut all = Vec::new(arena);
-    if let Ok(after) = skip(text, at, b')') {
+    if let Ok(after) = skip(at, b')') {
         return Ok((into_bump_slice(all), after));
     }
     let (one, mut rest) = variable(text, at)?;
     all.push(one)?;
-    while let Ok(after) = skip(text, rest, b',') {
+    while let Ok(after) = skip(rest, b',') {
         let (one, after) = variable(text, after)?;
         all.push(one)?;
         rest = after;
     }
-    let rest = skip(text, rest, b')')?;
+    let rest = skip(rest, b')')?;
     Ok((into_bump_slice(all), rest))
 }
 
 /// A local variable behind its word.
 #[tactic(auto, unfolding(crate::specs::Units::local_at))]
 fn local<'a, 't>(text: &'a [u8], at: Rest<'t>) -> Result<(Decl<'a>, Rest<'t>), ParseFault>
-    ensures ok { IfOk result (λ r. local_at text.now (state_of at.entry) ≡ Some (decl_shape r.0, state_of r.1)) }
+    ensures ok { IfOk result (λ r. local_at text.now (state_of at.entry) ≡ Ok (decl_shape r.0, state_of r.1)) }
     ensures shorter { IfOk result (λ r. length r.1.toks.now < length at.entry.toks.now) }
-    ensures err { IfErr result (λ e. (is_memory e ≡ false) × (local_at text.now (state_of at.entry) ≡ None)) }
+    ensures err { IfErr result (λ e. local_at text.now (state_of at.entry) ≡ Err e) }
 {
     let (one, rest) = variable(text, at)?;
-    let rest = skip(text, rest, b';')?;
+    let rest = skip(rest, b';')?;
     Ok((one, rest))
 }
 
@@ -119,13 +119,13 @@ pub(crate) fn locals<'a, 't>(
     text: &'a [u8],
     at: Rest<'t>,
 ) -> Result<(&'a [Decl<'a>], Rest<'t>), ParseFault>
-    ensures ok { IfOk result (λ r. locals_at text.now (state_of at.entry) ≡ Some (map decl_shape r.0.now, state_of r.1)) }
+    ensures ok { IfOk result (λ r. locals_at text.now (state_of at.entry) ≡ Ok (map decl_shape r.0.now, state_of r.1)) }
     ensures within { IfOk result (λ r. length r.1.toks.now ≤ length at.entry.toks.now) }
-    ensures err { IfErr result (λ e. is_memory e ≡ false → locals_at text.now (state_of at.entry) ≡ None) }
+    ensures err { IfErr result (λ e. is_memory e ≡ false → locals_at text.now (state_of at.entry) ≡ Err e) }
 {
     let mut all = Vec::new(arena);
     let mut rest = at;
-    while let Ok(after) = skip_word(text, rest, Word::Var) {
+    while let Ok(after) = skip_word(rest, Word::Var) {
         let (one, after) = local(text, after)?;
         all.push(one)?;
         rest = after;
@@ -139,32 +139,32 @@ fn needs<'a, 't>(
     text: &'a [u8],
     at: Rest<'t>,
 ) -> Result<(&'a [Ident<'a>], Rest<'t>), ParseFault>
-    ensures ok { IfOk result (λ r. list_of (name_at text.now) (state_of at.entry) ≡ Some (map ident_shape r.0.now, state_of r.1)) }
+    ensures ok { IfOk result (λ r. list_of (name_at text.now) (state_of at.entry) ≡ Ok (map ident_shape r.0.now, state_of r.1)) }
     ensures shorter { IfOk result (λ r. length r.1.toks.now < length at.entry.toks.now) }
-    ensures err { IfErr result (λ e. is_memory e ≡ false → list_of (name_at text.now) (state_of at.entry) ≡ None) }
+    ensures err { IfErr result (λ e. is_memory e ≡ false → list_of (name_at text.now) (state_of at.entry) ≡ Err e) }
 {
     let mut all = Vec::new(arena);
-    if let Ok(after) = skip(text, at, b')') {
+    if let Ok(after) = skip(at, b')') {
         return Ok((into_bump_slice(all), after));
     }
     let (one, mut rest) = name(text, at)?;
     all.push(one)?;
-    while let Ok(after) = skip(text, rest, b',') {
+    while let Ok(after) = skip(rest, b',') {
         let (one, after) = name(text, after)?;
         all.push(one)?;
         rest = after;
     }
-    let rest = skip(text, rest, b')')?;
+    let rest = skip(rest, b')')?;
     Ok((into_bump_slice(all), rest))
 }
 
 /// What a claim speaks of: the result or a variable.
 fn target<'a, 't>(text: &'a [u8], at: Rest<'t>) -> Result<(Option<Ident<'a>>, Rest<'t>), ParseFault>
-    ensures ok { IfOk result (λ r. target_at text.now (state_of at.entry) ≡ Some (option_map ident_shape r.0, state_of r.1)) }
+    ensures ok { IfOk result (λ r. target_at text.now (state_of at.entry) ≡ Ok (option_map ident_shape r.0, state_of r.1)) }
     ensures shorter { IfOk result (λ r. length r.1.toks.now < length at.entry.toks.now) }
-    ensures err { IfErr result (λ e. (is_memory e ≡ false) × (target_at text.now (state_of at.entry) ≡ None)) }
+    ensures err { IfErr result (λ e. target_at text.now (state_of at.entry) ≡ Err e) }
 {
-    if let Ok(after) = skip_word(text, at, Word::Result) {
+    if let Ok(after) = skip_word(at, Word::Result) {
         return Ok((None, after));
     }
     let (name, rest) = name(text, at)?;
@@ -172,28 +172,28 @@ fn target<'a, 't>(text: &'a [u8], at: Rest<'t>) -> Result<(Option<Ident<'a>>, Re
 }
 
 /// An operator's sign that stands for itself.
-fn skip_sign<'t>(text: &[u8], at: Rest<'t>, op: Op) -> Result<Rest<'t>, ParseFault>
-    ensures ok { IfOk result (λ r. skip_sign_at op (state_of at.entry) ≡ Some (state_of r)) }
+fn skip_sign<'t>(at: Rest<'t>, op: Op) -> Result<Rest<'t>, ParseFault>
+    ensures ok { IfOk result (λ r. skip_sign_at op (state_of at.entry) ≡ Ok (state_of r)) }
     ensures shorter { IfOk result (λ r. length r.toks.now < length at.entry.toks.now) }
-    ensures err { IfErr result (λ e. (is_memory e ≡ false) × (skip_sign_at op (state_of at.entry) ≡ None)) }
+    ensures err { IfErr result (λ e. skip_sign_at op (state_of at.entry) ≡ Err e) }
 {
-    let (token, after) = first(text, at)?;
+    let (token, after) = first(at)?;
     match token.kind {
         TokenKind::Oper(found) if found == op => Ok(after),
-        _ => Err(ParseFault::Expected(place(text, at))),
+        _ => Err(ParseFault::Expected(token.span.from)),
     }
 }
 
 /// What is behind a bound, up to behind the open bracket.
-fn behind_bound<'t>(text: &[u8], at: Rest<'t>) -> Result<Rest<'t>, ParseFault>
-    ensures ok { IfOk result (λ r. behind_bound_at (state_of at.entry) ≡ Some (state_of r)) }
+fn behind_bound<'t>(at: Rest<'t>) -> Result<Rest<'t>, ParseFault>
+    ensures ok { IfOk result (λ r. behind_bound_at (state_of at.entry) ≡ Ok (state_of r)) }
     ensures shorter { IfOk result (λ r. length r.toks.now < length at.entry.toks.now) }
-    ensures err { IfErr result (λ e. (is_memory e ≡ false) × (behind_bound_at (state_of at.entry) ≡ None)) }
+    ensures err { IfErr result (λ e. behind_bound_at (state_of at.entry) ≡ Err e) }
 {
-    let (_, rest) = first(text, at)?;
-    let rest = skip_sign(text, rest, Op::Mul)?;
-    let rest = skip_word(text, rest, Word::R)?;
-    skip(text, rest, b'(')
+    let (_, rest) = first(at)?;
+    let rest = skip_sign(rest, Op::Mul)?;
+    let rest = skip_word(rest, Word::R)?;
+    skip(rest, b'(')
 }
 
 /// A claim behind its word.
@@ -203,14 +203,14 @@ fn claim<'a, 't>(
     text: &'a [u8],
     at: Rest<'t>,
 ) -> Result<(Said<'a>, Rest<'t>), ParseFault>
-    ensures ok { IfOk result (λ r. claim_at text.now (state_of at.entry) ≡ Some (said_shape r.0, state_of r.1)) }
+    ensures ok { IfOk result (λ r. claim_at text.now (state_of at.entry) ≡ Ok (said_shape r.0, state_of r.1)) }
     ensures shorter { IfOk result (λ r. length r.1.toks.now < length at.entry.toks.now) }
-    ensures err { IfErr result (λ e. is_memory e ≡ false → claim_at text.now (state_of at.entry) ≡ None) }
+    ensures err { IfErr result (λ e. is_memory e ≡ false → claim_at text.now (state_of at.entry) ≡ Err e) }
 {
     let (target, rest) = target(text, at)?;
-    let rest = skip_sign(text, rest, Op::Ge)?;
+    let rest = skip_sign(rest, Op::Ge)?;
     let bound = bound(text, rest)?;
-    let rest = behind_bound(text, rest)?;
+    let rest = behind_bound(rest)?;
     let (needs, rest) = needs(arena, text, rest)?;
     let said = Said {
         target,
@@ -229,12 +229,12 @@ pub(crate) fn claims<'a, 't>(
     text: &'a [u8],
     at: Rest<'t>,
 ) -> Result<(&'a [Said<'a>], Rest<'t>), ParseFault>
-    ensures ok { IfOk result (λ r. claims_at text.now (state_of at.entry) ≡ Some (map said_shape r.0.now, state_of r.1)) }
+    ensures ok { IfOk result (λ r. claims_at text.now (state_of at.entry) ≡ Ok (map said_shape r.0.now, state_of r.1)) }
     ensures shorter { IfOk result (λ r. length r.1.toks.now < length at.entry.toks.now) }
-    ensures err { IfErr result (λ e. is_memory e ≡ false → claims_at text.now (state_of at.entry) ≡ None) }
+    ensures err { IfErr result (λ e. is_memory e ≡ false → claims_at text.now (state_of at.entry) ≡ Err e) }
 {
     let mut all = Vec::new(arena);
-    let start = skip_word(text, at, Word::Claim)?;
+    let start = skip_word(at, Word::Claim)?;
     let (one, mut rest) = match claim(arena, text, start) {
         Ok(read) => read,
         Err(fault) => return Err(fault),
@@ -242,9 +242,9 @@ pub(crate) fn claims<'a, 't>(
     let Ok(()) = all.push(one) else {
         return Err(ParseFault::Memory);
     };
-    while let Ok(after) = skip_word(text, rest, Word::Claim) {
+    while let Ok(after) = skip_word(rest, Word::Claim) {
         if all.len() >= MOST_CLAIMS {
-            return Err(ParseFault::Many(place(text, rest)));
+            return Err(ParseFault::Many(place(rest)));
         }
         let (one, after) = match claim(arena, text, after) {
             Ok(read) => read,

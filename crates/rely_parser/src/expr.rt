@@ -1,5 +1,5 @@
 // Expressions.
-ghost use Rattle.std.specs.Prelude.{◌≡◌, ◌<◌, ◌≤◌, length, Some, None, IfOk, IfErr, false};
+ghost use Rattle.std.specs.Prelude.{◌≡◌, ◌<◌, ◌≤◌, length, Ok, Err, IfOk, IfErr, false};
 ghost use Rattle.rely_tree.specs.Shape.{ident_shape, kind_shape, expr_shape};
 ghost use Rattle.rely_parser.specs.State.{state_of, is_memory, one_operator};
 ghost use Rattle.rely_parser.specs.Grammar.{variable_at, prim_at, kind_at, level_at, bracketed};
@@ -16,9 +16,9 @@ const LOOSEST: u32 = 7;
 
 /// One operator less that may stand.
 fn one_operator<'t>(at: Rest<'t>, place: u32) -> Result<Rest<'t>, ParseFault>
-    ensures ok { IfOk result (λ r. one_operator (state_of at.entry) ≡ Some (state_of r)) }
+    ensures ok { IfOk result (λ r. one_operator place (state_of at.entry) ≡ Ok (state_of r)) }
     ensures same { IfOk result (λ r. length r.toks.now ≡ length at.entry.toks.now) }
-    ensures err { IfErr result (λ e. (is_memory e ≡ false) × (one_operator (state_of at.entry) ≡ None)) }
+    ensures err { IfErr result (λ e. one_operator place (state_of at.entry) ≡ Err e) }
 {
     if at.operators == 0 {
         return Err(ParseFault::Many(place));
@@ -36,9 +36,9 @@ fn kind<'a, 't>(
     at: Rest<'t>,
     place: u32,
 ) -> Result<(Kind<'a>, Rest<'t>), ParseFault>
-    ensures ok { IfOk result (λ r. kind_at text.now (state_of at.entry) ≡ Some (kind_shape r.0, state_of r.1)) }
+    ensures ok { IfOk result (λ r. kind_at text.now place (state_of at.entry) ≡ Ok (kind_shape r.0, state_of r.1)) }
     ensures within { IfOk result (λ r. length r.1.toks.now ≤ length at.entry.toks.now) }
-    ensures err { IfErr result (λ e. (is_memory e ≡ false) × (kind_at text.now (state_of at.entry) ≡ None)) }
+    ensures err { IfErr result (λ e. kind_at text.now place (state_of at.entry) ≡ Err e) }
 {
     let rest = one_operator(at, place)?;
     suffix(text, rest)
@@ -54,9 +54,9 @@ pub(crate) fn bracketed<'a, 't>(
     deep: u32,
     place: u32,
 ) -> Result<(Expr<'a>, Rest<'t>), ParseFault>
-    ensures ok { IfOk result (λ r. bracketed text.now deep (state_of at.entry) ≡ Some (expr_shape r.0, state_of r.1)) }
+    ensures ok { IfOk result (λ r. bracketed text.now deep place (state_of at.entry) ≡ Ok (expr_shape r.0, state_of r.1)) }
     ensures shorter { IfOk result (λ r. length r.1.toks.now < length at.entry.toks.now) }
-    ensures err { IfErr result (λ e. is_memory e ≡ false → bracketed text.now deep (state_of at.entry) ≡ None) }
+    ensures err { IfErr result (λ e. is_memory e ≡ false → bracketed text.now deep place (state_of at.entry) ≡ Err e) }
 {
     if deep == 0 {
         return Err(ParseFault::Deep(place));
@@ -73,13 +73,13 @@ fn variable<'a, 't>(
     deep: u32,
     name: Ident<'a>,
 ) -> Result<(Expr<'a>, Rest<'t>), ParseFault>
-    ensures ok { IfOk result (λ r. variable_at (bracketed text.now deep) (ident_shape name.entry) (state_of at.entry) ≡ Some (expr_shape r.0, state_of r.1)) }
+    ensures ok { IfOk result (λ r. variable_at (bracketed text.now deep) (ident_shape name.entry) (state_of at.entry) ≡ Ok (expr_shape r.0, state_of r.1)) }
     ensures within { IfOk result (λ r. length r.1.toks.now ≤ length at.entry.toks.now) }
-    ensures err { IfErr result (λ e. is_memory e ≡ false → variable_at (bracketed text.now deep) (ident_shape name.entry) (state_of at.entry) ≡ None) }
+    ensures err { IfErr result (λ e. is_memory e ≡ false → variable_at (bracketed text.now deep) (ident_shape name.entry) (state_of at.entry) ≡ Err e) }
 {
-    if let Ok(after) = skip(text, at, b'[') {
-        let (index, after) = bracketed(arena, text, after, deep, place(text, at))?;
-        let after = skip(text, after, b']')?;
+    if let Ok(after) = skip(at, b'[') {
+        let (index, after) = bracketed(arena, text, after, deep, place(at))?;
+        let after = skip(after, b']')?;
         return Ok((Expr::Elem(name, arena.try_alloc(index)?), after));
     }
     Ok((Expr::Name(name), at))
@@ -93,20 +93,20 @@ fn prim<'a, 't>(
     at: Rest<'t>,
     deep: u32,
 ) -> Result<(Expr<'a>, Rest<'t>), ParseFault>
-    ensures ok { IfOk result (λ r. prim_at text.now (bracketed text.now deep) (state_of at.entry) ≡ Some (expr_shape r.0, state_of r.1)) }
+    ensures ok { IfOk result (λ r. prim_at text.now (bracketed text.now deep) (state_of at.entry) ≡ Ok (expr_shape r.0, state_of r.1)) }
     ensures shorter { IfOk result (λ r. length r.1.toks.now < length at.entry.toks.now) }
-    ensures err { IfErr result (λ e. is_memory e ≡ false → prim_at text.now (bracketed text.now deep) (state_of at.entry) ≡ None) }
+    ensures err { IfErr result (λ e. is_memory e ≡ false → prim_at text.now (bracketed text.now deep) (state_of at.entry) ≡ Err e) }
 {
-    let (token, after) = first(text, at)?;
+    let (token, after) = first(at)?;
     match token.kind {
         TokenKind::Number(value) => Ok((Expr::Num(value), after)),
         TokenKind::Name => variable(arena, text, after, deep, ident(text, token.span)),
         TokenKind::Mark(b'(') => {
             let (inner, after) = bracketed(arena, text, after, deep, token.span.from)?;
-            let after = skip(text, after, b')')?;
+            let after = skip(after, b')')?;
             Ok((inner, after))
         }
-        _ => Err(ParseFault::Expected(place(text, at))),
+        _ => Err(ParseFault::Expected(token.span.from)),
     }
 }
 
@@ -120,15 +120,15 @@ fn level<'a, 't>(
     deep: u32,
     loose: u32,
 ) -> Result<(Expr<'a>, Rest<'t>), ParseFault>
-    ensures ok { IfOk result (λ r. level_at text.now (bracketed text.now deep) loose (state_of at.entry) ≡ Some (expr_shape r.0, state_of r.1)) }
+    ensures ok { IfOk result (λ r. level_at text.now (bracketed text.now deep) loose (state_of at.entry) ≡ Ok (expr_shape r.0, state_of r.1)) }
     ensures shorter { IfOk result (λ r. length r.1.toks.now < length at.entry.toks.now) }
-    ensures err { IfErr result (λ e. is_memory e ≡ false → level_at text.now (bracketed text.now deep) loose (state_of at.entry) ≡ None) }
+    ensures err { IfErr result (λ e. is_memory e ≡ false → level_at text.now (bracketed text.now deep) loose (state_of at.entry) ≡ Err e) }
 {
     if loose == 0 {
         return prim(arena, text, at, deep);
     }
     let (mut left, mut rest) = level(arena, text, at, deep, loose - 1)?;
-    while let Ok(((op, span), after)) = operator(text, rest, loose) {
+    while let Ok(((op, span), after)) = operator(rest, loose) {
         let (kind, after) = kind(text, after, span.from)?;
         let (right, after) = level(arena, text, after, deep, loose - 1)?;
         left = Expr::Bin(
@@ -149,9 +149,9 @@ pub(crate) fn expr<'a, 't>(
     at: Rest<'t>,
     deep: u32,
 ) -> Result<(Expr<'a>, Rest<'t>), ParseFault>
-    ensures ok { IfOk result (λ r. level_at text.now (bracketed text.now deep) 7 (state_of at.entry) ≡ Some (expr_shape r.0, state_of r.1)) }
+    ensures ok { IfOk result (λ r. level_at text.now (bracketed text.now deep) 7 (state_of at.entry) ≡ Ok (expr_shape r.0, state_of r.1)) }
     ensures shorter { IfOk result (λ r. length r.1.toks.now < length at.entry.toks.now) }
-    ensures err { IfErr result (λ e. is_memory e ≡ false → level_at text.now (bracketed text.now deep) 7 (state_of at.entry) ≡ None) }
+    ensures err { IfErr result (λ e. is_memory e ≡ false → level_at text.now (bracketed text.now deep) 7 (state_of at.entry) ≡ Err e) }
 {
     level(arena, text, at, deep, LOOSEST)
 }

@@ -1,5 +1,5 @@
 // Names, numbers and the marks of a choice.
-ghost use Rattle.std.specs.Prelude.{◌≡◌, ◌<◌, ◌≤◌, length, Some, None, IfOk, IfErr, false};
+ghost use Rattle.std.specs.Prelude.{◌≡◌, ◌<◌, ◌≤◌, length, Ok, Err, IfOk, IfErr, false};
 ghost use Rattle.rely_tree.specs.Shape.{ident_shape, kind_shape};
 ghost use Rattle.rely_parser.specs.Declarations.{length_at, choice_at};
 ghost use Rattle.rely_parser.specs.Units.{is_amount, bound_at};
@@ -36,26 +36,26 @@ pub(crate) fn name<'a, 't>(
     text: &'a [u8],
     at: Rest<'t>,
 ) -> Result<(Ident<'a>, Rest<'t>), ParseFault>
-    ensures ok { IfOk result (λ r. name_at text.now (state_of at.entry) ≡ Some (ident_shape r.0, state_of r.1)) }
+    ensures ok { IfOk result (λ r. name_at text.now (state_of at.entry) ≡ Ok (ident_shape r.0, state_of r.1)) }
     ensures shorter { IfOk result (λ r. length r.1.toks.now < length at.entry.toks.now) }
-    ensures err { IfErr result (λ e. (is_memory e ≡ false) × (name_at text.now (state_of at.entry) ≡ None)) }
+    ensures err { IfErr result (λ e. name_at text.now (state_of at.entry) ≡ Err e) }
 {
-    let (token, after) = first(text, at)?;
+    let (token, after) = first(at)?;
     match token.kind {
         TokenKind::Name => Ok((ident(text, token.span), after)),
-        _ => Err(ParseFault::Expected(place(text, at))),
+        _ => Err(ParseFault::Expected(token.span.from)),
     }
 }
 
-pub(crate) fn number<'t>(text: &[u8], at: Rest<'t>) -> Result<(u64, Rest<'t>), ParseFault>
-    ensures ok { IfOk result (λ r. number_at (state_of at.entry) ≡ Some (r.0, state_of r.1)) }
+pub(crate) fn number<'t>(at: Rest<'t>) -> Result<(u64, Rest<'t>), ParseFault>
+    ensures ok { IfOk result (λ r. number_at (state_of at.entry) ≡ Ok (r.0, state_of r.1)) }
     ensures shorter { IfOk result (λ r. length r.1.toks.now < length at.entry.toks.now) }
-    ensures err { IfErr result (λ e. (is_memory e ≡ false) × (number_at (state_of at.entry) ≡ None)) }
+    ensures err { IfErr result (λ e. number_at (state_of at.entry) ≡ Err e) }
 {
-    let (token, after) = first(text, at)?;
+    let (token, after) = first(at)?;
     match token.kind {
         TokenKind::Number(value) => Ok((value, after)),
-        _ => Err(ParseFault::Expected(place(text, at))),
+        _ => Err(ParseFault::Expected(token.span.from)),
     }
 }
 
@@ -63,27 +63,27 @@ pub(crate) fn number<'t>(text: &[u8], at: Rest<'t>) -> Result<(u64, Rest<'t>), P
 const LONGEST: u64 = 4096;
 
 /// An array's length.
-pub(crate) fn length<'t>(text: &[u8], at: Rest<'t>) -> Result<(u32, Rest<'t>), ParseFault>
-    ensures ok { IfOk result (λ r. length_at (state_of at.entry) ≡ Some (r.0, state_of r.1)) }
+pub(crate) fn length<'t>(at: Rest<'t>) -> Result<(u32, Rest<'t>), ParseFault>
+    ensures ok { IfOk result (λ r. length_at (state_of at.entry) ≡ Ok (r.0, state_of r.1)) }
     ensures shorter { IfOk result (λ r. length r.1.toks.now < length at.entry.toks.now) }
-    ensures err { IfErr result (λ e. (is_memory e ≡ false) × (length_at (state_of at.entry) ≡ None)) }
+    ensures err { IfErr result (λ e. length_at (state_of at.entry) ≡ Err e) }
 {
-    let (value, after) = number(text, at)?;
+    let (value, after) = number(at)?;
     if value == 0 || value > LONGEST {
-        return Err(ParseFault::Expected(place(text, at)));
+        return Err(ParseFault::Expected(place(at)));
     }
     Ok((value as u32, after))
 }
 
 /// A number of turns.
-pub(crate) fn count<'t>(text: &[u8], at: Rest<'t>) -> Result<(u32, Rest<'t>), ParseFault>
-    ensures ok { IfOk result (λ r. count_at (state_of at.entry) ≡ Some (r.0, state_of r.1)) }
+pub(crate) fn count<'t>(at: Rest<'t>) -> Result<(u32, Rest<'t>), ParseFault>
+    ensures ok { IfOk result (λ r. count_at (state_of at.entry) ≡ Ok (r.0, state_of r.1)) }
     ensures shorter { IfOk result (λ r. length r.1.toks.now < length at.entry.toks.now) }
-    ensures err { IfErr result (λ e. (is_memory e ≡ false) × (count_at (state_of at.entry) ≡ None)) }
+    ensures err { IfErr result (λ e. count_at (state_of at.entry) ≡ Err e) }
 {
-    let (value, after) = number(text, at)?;
+    let (value, after) = number(at)?;
     if value > u64::from(u32::MAX) {
-        return Err(ParseFault::Expected(place(text, at)));
+        return Err(ParseFault::Expected(place(at)));
     }
     Ok((value as u32, after))
 }
@@ -96,16 +96,16 @@ fn is_amount(kind: TokenKind) -> bool
 
 /// The probability that the first token writes.
 pub(crate) fn bound(text: &[u8], at: Rest<'_>) -> Result<Atto, ParseFault>
-    ensures ok { IfOk result (λ a. bound_at text.now (state_of at.entry) ≡ Some a) }
-    ensures err { IfErr result (λ e. (is_memory e ≡ false) × (bound_at text.now (state_of at.entry) ≡ None)) }
+    ensures ok { IfOk result (λ a. bound_at text.now (state_of at.entry) ≡ Ok a) }
+    ensures err { IfErr result (λ e. bound_at text.now (state_of at.entry) ≡ Err e) }
 {
-    let (token, _) = first(text, at)?;
+    let (token, _) = first(at)?;
     if !is_amount(token.kind) {
-        return Err(ParseFault::Expected(place(text, at)));
+        return Err(ParseFault::Expected(token.span.from));
     }
     match Atto::read(word(text, token.span)) {
         Ok(bound) => Ok(bound),
-        Err(_) => Err(ParseFault::Expected(place(text, at))),
+        Err(_) => Err(ParseFault::Expected(token.span.from)),
     }
 }
 
@@ -114,15 +114,15 @@ pub(crate) fn choice<'a, 't>(
     text: &'a [u8],
     at: Rest<'t>,
 ) -> Result<(Kind<'a>, Rest<'t>), ParseFault>
-    ensures ok { IfOk result (λ r. choice_at text.now (state_of at.entry) ≡ Some (kind_shape r.0, state_of r.1)) }
+    ensures ok { IfOk result (λ r. choice_at text.now (state_of at.entry) ≡ Ok (kind_shape r.0, state_of r.1)) }
     ensures shorter { IfOk result (λ r. length r.1.toks.now < length at.entry.toks.now) }
-    ensures err { IfErr result (λ e. (is_memory e ≡ false) × (choice_at text.now (state_of at.entry) ≡ None)) }
+    ensures err { IfErr result (λ e. choice_at text.now (state_of at.entry) ≡ Err e) }
 {
-    let (token, after) = first(text, at)?;
+    let (token, after) = first(at)?;
     match token.kind {
         TokenKind::Name => Ok((Kind::Named(ident(text, token.span)), after)),
         TokenKind::Mark(b'?') => Ok((Kind::Free(token.span), after)),
-        _ => Err(ParseFault::Expected(place(text, at))),
+        _ => Err(ParseFault::Expected(token.span.from)),
     }
 }
 
@@ -131,16 +131,16 @@ pub(crate) fn suffix<'a, 't>(
     text: &'a [u8],
     at: Rest<'t>,
 ) -> Result<(Kind<'a>, Rest<'t>), ParseFault>
-    ensures ok { IfOk result (λ r. suffix_at text.now (state_of at.entry) ≡ Some (kind_shape r.0, state_of r.1)) }
+    ensures ok { IfOk result (λ r. suffix_at text.now (state_of at.entry) ≡ Ok (kind_shape r.0, state_of r.1)) }
     ensures within { IfOk result (λ r. length r.1.toks.now ≤ length at.entry.toks.now) }
-    ensures err { IfErr result (λ e. (is_memory e ≡ false) × (suffix_at text.now (state_of at.entry) ≡ None)) }
+    ensures err { IfErr result (λ e. suffix_at text.now (state_of at.entry) ≡ Err e) }
 {
-    if let Ok(after) = skip(text, at, b'.') {
+    if let Ok(after) = skip(at, b'.') {
         let (name, after) = name(text, after)?;
         return Ok((Kind::Named(name), after));
     }
-    if let Ok(after) = skip(text, at, b'?') {
-        let (token, _) = first(text, at)?;
+    if let Ok(after) = skip(at, b'?') {
+        let (token, _) = first(at)?;
         return Ok((Kind::Free(token.span), after));
     }
     Ok((Kind::Plain, at))
@@ -162,18 +162,14 @@ fn height(op: Op) -> u32
 }
 
 /// An operator that binds so loosely, and its place.
-pub(crate) fn operator<'t>(
-    text: &[u8],
-    at: Rest<'t>,
-    loose: u32,
-) -> Result<((Op, Span), Rest<'t>), ParseFault>
-    ensures ok { IfOk result (λ r. operator_at loose (state_of at.entry) ≡ Some (r.0, state_of r.1)) }
+pub(crate) fn operator<'t>(at: Rest<'t>, loose: u32) -> Result<((Op, Span), Rest<'t>), ParseFault>
+    ensures ok { IfOk result (λ r. operator_at loose (state_of at.entry) ≡ Ok (r.0, state_of r.1)) }
     ensures shorter { IfOk result (λ r. length r.1.toks.now < length at.entry.toks.now) }
-    ensures err { IfErr result (λ e. (is_memory e ≡ false) × (operator_at loose (state_of at.entry) ≡ None)) }
+    ensures err { IfErr result (λ e. operator_at loose (state_of at.entry) ≡ Err e) }
 {
-    let (token, after) = first(text, at)?;
+    let (token, after) = first(at)?;
     match token.kind {
         TokenKind::Oper(op) if height(op) == loose => Ok(((op, token.span), after)),
-        _ => Err(ParseFault::Expected(place(text, at))),
+        _ => Err(ParseFault::Expected(token.span.from)),
     }
 }

@@ -1,5 +1,5 @@
 // Statements.
-ghost use Rattle.std.specs.Prelude.{◌≡◌, ◌<◌, ◌≤◌, ◌+◌, length, map, Some, None, IfOk, IfErr, false};
+ghost use Rattle.std.specs.Prelude.{◌≡◌, ◌<◌, ◌≤◌, ◌+◌, length, map, Ok, Err, IfOk, IfErr, false};
 ghost use Rattle.rely_tree.specs.Shape.{ident_shape, expr_shape, stmt_shape, block_shape};
 ghost use Rattle.rely_parser.specs.State.{state_of, is_memory};
 ghost use Rattle.rely_parser.specs.Grammar.{expr_at};
@@ -17,9 +17,9 @@ use rely_tree::{Expr, Ident, Stmt};
 
 /// One call less that may stand.
 fn one_call<'t>(at: Rest<'t>, place: u32) -> Result<Rest<'t>, ParseFault>
-    ensures ok { IfOk result (λ r. one_call (state_of at.entry) ≡ Some (state_of r)) }
+    ensures ok { IfOk result (λ r. one_call place (state_of at.entry) ≡ Ok (state_of r)) }
     ensures same { IfOk result (λ r. length r.toks.now ≡ length at.entry.toks.now) }
-    ensures err { IfErr result (λ e. (is_memory e ≡ false) × (one_call (state_of at.entry) ≡ None)) }
+    ensures err { IfErr result (λ e. one_call place (state_of at.entry) ≡ Err e) }
 {
     if at.calls == 0 {
         return Err(ParseFault::Many(place));
@@ -37,22 +37,22 @@ fn args<'a, 't>(
     at: Rest<'t>,
     deep: u32,
 ) -> Result<(&'a [Expr<'a>], Rest<'t>), ParseFault>
-    ensures ok { IfOk result (λ r. list_of (expr_at text.now deep) (state_of at.entry) ≡ Some (map expr_shape r.0.now, state_of r.1)) }
+    ensures ok { IfOk result (λ r. list_of (expr_at text.now deep) (state_of at.entry) ≡ Ok (map expr_shape r.0.now, state_of r.1)) }
     ensures shorter { IfOk result (λ r. length r.1.toks.now < length at.entry.toks.now) }
-    ensures err { IfErr result (λ e. is_memory e ≡ false → list_of (expr_at text.now deep) (state_of at.entry) ≡ None) }
+    ensures err { IfErr result (λ e. is_memory e ≡ false → list_of (expr_at text.now deep) (state_of at.entry) ≡ Err e) }
 {
     let mut all = Vec::new(arena);
-    if let Ok(after) = skip(text, at, b')') {
+    if let Ok(after) = skip(at, b')') {
         return Ok((into_bump_slice(all), after));
     }
     let (one, mut rest) = expr(arena, text, at, deep)?;
     all.push(one)?;
-    while let Ok(after) = skip(text, rest, b',') {
+    while let Ok(after) = skip(rest, b',') {
         let (one, after) = expr(arena, text, after, deep)?;
         all.push(one)?;
         rest = after;
     }
-    let rest = skip(text, rest, b')')?;
+    let rest = skip(rest, b')')?;
     Ok((into_bump_slice(all), rest))
 }
 
@@ -66,19 +66,19 @@ fn call<'a, 't>(
     target: Ident<'a>,
     word: Span,
 ) -> Result<(Stmt<'a>, Rest<'t>), ParseFault>
-    ensures ok { IfOk result (λ r. call_at text.now deep (ident_shape target.entry) word (state_of at.entry) ≡ Some (stmt_shape r.0, state_of r.1)) }
+    ensures ok { IfOk result (λ r. call_at text.now deep (ident_shape target.entry) word (state_of at.entry) ≡ Ok (stmt_shape r.0, state_of r.1)) }
     ensures shorter { IfOk result (λ r. length r.1.toks.now < length at.entry.toks.now) }
-    ensures err { IfErr result (λ e. is_memory e ≡ false → call_at text.now deep (ident_shape target.entry) word (state_of at.entry) ≡ None) }
+    ensures err { IfErr result (λ e. is_memory e ≡ false → call_at text.now deep (ident_shape target.entry) word (state_of at.entry) ≡ Err e) }
 {
     let rest = one_call(at, word.from)?;
     let (callee, rest) = name(text, rest)?;
-    let bracket = place(text, rest);
-    let rest = skip(text, rest, b'(')?;
+    let bracket = place(rest);
+    let rest = skip(rest, b'(')?;
     if deep == 0 {
         return Err(ParseFault::Deep(bracket));
     }
     let (args, rest) = args(arena, text, rest, deep - 1)?;
-    let rest = skip(text, rest, b';')?;
+    let rest = skip(rest, b';')?;
     Ok((Stmt::Call(target.span, target, word, callee, args), rest))
 }
 
@@ -91,16 +91,16 @@ fn set<'a, 't>(
     deep: u32,
     target: Ident<'a>,
 ) -> Result<(Stmt<'a>, Rest<'t>), ParseFault>
-    ensures ok { IfOk result (λ r. set_at text.now deep (ident_shape target.entry) (state_of at.entry) ≡ Some (stmt_shape r.0, state_of r.1)) }
+    ensures ok { IfOk result (λ r. set_at text.now deep (ident_shape target.entry) (state_of at.entry) ≡ Ok (stmt_shape r.0, state_of r.1)) }
     ensures shorter { IfOk result (λ r. length r.1.toks.now < length at.entry.toks.now) }
-    ensures err { IfErr result (λ e. is_memory e ≡ false → set_at text.now deep (ident_shape target.entry) (state_of at.entry) ≡ None) }
+    ensures err { IfErr result (λ e. is_memory e ≡ false → set_at text.now deep (ident_shape target.entry) (state_of at.entry) ≡ Err e) }
 {
-    if let Ok(after) = skip_word(text, at, Word::Call) {
-        let (token, _) = first(text, at)?;
+    if let Ok(after) = skip_word(at, Word::Call) {
+        let (token, _) = first(at)?;
         return call(arena, text, after, deep, target, token.span);
     }
     let (value, rest) = expr(arena, text, at, deep)?;
-    let rest = skip(text, rest, b';')?;
+    let rest = skip(rest, b';')?;
     Ok((Stmt::Set(target.span, target, value), rest))
 }
 
@@ -113,19 +113,19 @@ fn assignment<'a, 't>(
     deep: u32,
     target: Ident<'a>,
 ) -> Result<(Stmt<'a>, Rest<'t>), ParseFault>
-    ensures ok { IfOk result (λ r. assignment_at text.now deep (ident_shape target.entry) (state_of at.entry) ≡ Some (stmt_shape r.0, state_of r.1)) }
+    ensures ok { IfOk result (λ r. assignment_at text.now deep (ident_shape target.entry) (state_of at.entry) ≡ Ok (stmt_shape r.0, state_of r.1)) }
     ensures shorter { IfOk result (λ r. length r.1.toks.now < length at.entry.toks.now) }
-    ensures err { IfErr result (λ e. is_memory e ≡ false → assignment_at text.now deep (ident_shape target.entry) (state_of at.entry) ≡ None) }
+    ensures err { IfErr result (λ e. is_memory e ≡ false → assignment_at text.now deep (ident_shape target.entry) (state_of at.entry) ≡ Err e) }
 {
-    if let Ok(after) = skip(text, at, b'=') {
+    if let Ok(after) = skip(at, b'=') {
         return set(arena, text, after, deep, target);
     }
-    let rest = skip(text, at, b'[')?;
-    let (index, rest) = bracketed(arena, text, rest, deep, place(text, at))?;
-    let rest = skip(text, rest, b']')?;
-    let rest = skip(text, rest, b'=')?;
+    let rest = skip(at, b'[')?;
+    let (index, rest) = bracketed(arena, text, rest, deep, place(at))?;
+    let rest = skip(rest, b']')?;
+    let rest = skip(rest, b'=')?;
     let (value, rest) = expr(arena, text, rest, deep)?;
-    let rest = skip(text, rest, b';')?;
+    let rest = skip(rest, b';')?;
     Ok((Stmt::SetElem(target.span, target, index, value), rest))
 }
 
@@ -137,13 +137,13 @@ fn condition<'a, 't>(
     at: Rest<'t>,
     deep: u32,
 ) -> Result<(Expr<'a>, Rest<'t>), ParseFault>
-    ensures ok { IfOk result (λ r. condition_at text.now deep (state_of at.entry) ≡ Some (expr_shape r.0, state_of r.1)) }
+    ensures ok { IfOk result (λ r. condition_at text.now deep (state_of at.entry) ≡ Ok (expr_shape r.0, state_of r.1)) }
     ensures shorter { IfOk result (λ r. length r.1.toks.now < length at.entry.toks.now) }
-    ensures err { IfErr result (λ e. is_memory e ≡ false → condition_at text.now deep (state_of at.entry) ≡ None) }
+    ensures err { IfErr result (λ e. is_memory e ≡ false → condition_at text.now deep (state_of at.entry) ≡ Err e) }
 {
-    let rest = skip(text, at, b'(')?;
-    let (test, rest) = bracketed(arena, text, rest, deep, place(text, at))?;
-    let rest = skip(text, rest, b')')?;
+    let rest = skip(at, b'(')?;
+    let (test, rest) = bracketed(arena, text, rest, deep, place(at))?;
+    let rest = skip(rest, b')')?;
     Ok((test, rest))
 }
 
@@ -156,11 +156,11 @@ fn otherwise<'a, 't>(
     at: Rest<'t>,
     deep: u32,
 ) -> Result<(&'a [Stmt<'a>], Rest<'t>), ParseFault>
-    ensures ok { IfOk result (λ r. otherwise_at (block_at text.now deep) (state_of at.entry) ≡ Some (block_shape r.0.now, state_of r.1)) }
+    ensures ok { IfOk result (λ r. otherwise_at (block_at text.now deep) (state_of at.entry) ≡ Ok (block_shape r.0.now, state_of r.1)) }
     ensures within { IfOk result (λ r. length r.1.toks.now ≤ length at.entry.toks.now) }
-    ensures err { IfErr result (λ e. is_memory e ≡ false → otherwise_at (block_at text.now deep) (state_of at.entry) ≡ None) }
+    ensures err { IfErr result (λ e. is_memory e ≡ false → otherwise_at (block_at text.now deep) (state_of at.entry) ≡ Err e) }
 {
-    if let Ok(after) = skip_word(text, at, Word::Else) {
+    if let Ok(after) = skip_word(at, Word::Else) {
         return block(arena, text, after, deep);
     }
     Ok((&[], at))
@@ -175,9 +175,9 @@ fn choice<'a, 't>(
     deep: u32,
     span: Span,
 ) -> Result<(Stmt<'a>, Rest<'t>), ParseFault>
-    ensures ok { IfOk result (λ r. if_at text.now deep (block_at text.now deep) span (state_of at.entry) ≡ Some (stmt_shape r.0, state_of r.1)) }
+    ensures ok { IfOk result (λ r. if_at text.now deep (block_at text.now deep) span (state_of at.entry) ≡ Ok (stmt_shape r.0, state_of r.1)) }
     ensures shorter { IfOk result (λ r. length r.1.toks.now < length at.entry.toks.now) }
-    ensures err { IfErr result (λ e. is_memory e ≡ false → if_at text.now deep (block_at text.now deep) span (state_of at.entry) ≡ None) }
+    ensures err { IfErr result (λ e. is_memory e ≡ false → if_at text.now deep (block_at text.now deep) span (state_of at.entry) ≡ Err e) }
 {
     let (test, rest) = condition(arena, text, at, deep)?;
     let (held, rest) = block(arena, text, rest, deep)?;
@@ -194,13 +194,13 @@ fn loop_while<'a, 't>(
     deep: u32,
     span: Span,
 ) -> Result<(Stmt<'a>, Rest<'t>), ParseFault>
-    ensures ok { IfOk result (λ r. while_at text.now deep (block_at text.now deep) span (state_of at.entry) ≡ Some (stmt_shape r.0, state_of r.1)) }
+    ensures ok { IfOk result (λ r. while_at text.now deep (block_at text.now deep) span (state_of at.entry) ≡ Ok (stmt_shape r.0, state_of r.1)) }
     ensures shorter { IfOk result (λ r. length r.1.toks.now < length at.entry.toks.now) }
-    ensures err { IfErr result (λ e. is_memory e ≡ false → while_at text.now deep (block_at text.now deep) span (state_of at.entry) ≡ None) }
+    ensures err { IfErr result (λ e. is_memory e ≡ false → while_at text.now deep (block_at text.now deep) span (state_of at.entry) ≡ Err e) }
 {
     let (test, rest) = condition(arena, text, at, deep)?;
-    let rest = skip_word(text, rest, Word::Max)?;
-    let (most, rest) = count(text, rest)?;
+    let rest = skip_word(rest, Word::Max)?;
+    let (most, rest) = count(rest)?;
     let (body, rest) = block(arena, text, rest, deep)?;
     Ok((Stmt::While(span, test, most, body), rest))
 }
@@ -214,11 +214,11 @@ fn loop_repeat<'a, 't>(
     deep: u32,
     span: Span,
 ) -> Result<(Stmt<'a>, Rest<'t>), ParseFault>
-    ensures ok { IfOk result (λ r. repeat_at (block_at text.now deep) span (state_of at.entry) ≡ Some (stmt_shape r.0, state_of r.1)) }
+    ensures ok { IfOk result (λ r. repeat_at (block_at text.now deep) span (state_of at.entry) ≡ Ok (stmt_shape r.0, state_of r.1)) }
     ensures shorter { IfOk result (λ r. length r.1.toks.now < length at.entry.toks.now) }
-    ensures err { IfErr result (λ e. is_memory e ≡ false → repeat_at (block_at text.now deep) span (state_of at.entry) ≡ None) }
+    ensures err { IfErr result (λ e. is_memory e ≡ false → repeat_at (block_at text.now deep) span (state_of at.entry) ≡ Err e) }
 {
-    let (turns, rest) = count(text, at)?;
+    let (turns, rest) = count(at)?;
     let (body, rest) = block(arena, text, rest, deep)?;
     Ok((Stmt::Repeat(span, turns, body), rest))
 }
@@ -231,18 +231,18 @@ pub(crate) fn stmt<'a, 't>(
     at: Rest<'t>,
     deep: u32,
 ) -> Result<(Stmt<'a>, Rest<'t>), ParseFault>
-    ensures ok { IfOk result (λ r. stmt_at text.now deep (state_of at.entry) ≡ Some (stmt_shape r.0, state_of r.1)) }
+    ensures ok { IfOk result (λ r. stmt_at text.now deep (state_of at.entry) ≡ Ok (stmt_shape r.0, state_of r.1)) }
     ensures shorter { IfOk result (λ r. length r.1.toks.now < length at.entry.toks.now) }
-    ensures err { IfErr result (λ e. is_memory e ≡ false → stmt_at text.now deep (state_of at.entry) ≡ None) }
+    ensures err { IfErr result (λ e. is_memory e ≡ false → stmt_at text.now deep (state_of at.entry) ≡ Err e) }
 {
-    let (token, after) = first(text, at)?;
+    let (token, after) = first(at)?;
     let span = token.span;
     match token.kind {
         TokenKind::Name => assignment(arena, text, after, deep, ident(text, span)),
         TokenKind::Word(Word::If) => choice(arena, text, after, deep, span),
         TokenKind::Word(Word::While) => loop_while(arena, text, after, deep, span),
         TokenKind::Word(Word::Repeat) => loop_repeat(arena, text, after, deep, span),
-        _ => Err(ParseFault::Expected(place(text, at))),
+        _ => Err(ParseFault::Expected(token.span.from)),
     }
 }
 
@@ -254,14 +254,14 @@ fn braced<'a, 't>(
     at: Rest<'t>,
     deep: u32,
 ) -> Result<(&'a [Stmt<'a>], Rest<'t>), ParseFault>
-    ensures ok { IfOk result (λ r. items_at (stmt_at text.now deep) (length at.entry.toks.now + 1) (state_of at.entry) ≡ Some (block_shape r.0.now, state_of r.1)) }
+    ensures ok { IfOk result (λ r. items_at (stmt_at text.now deep) (length at.entry.toks.now + 1) (state_of at.entry) ≡ Ok (block_shape r.0.now, state_of r.1)) }
     ensures shorter { IfOk result (λ r. length r.1.toks.now < length at.entry.toks.now) }
-    ensures err { IfErr result (λ e. is_memory e ≡ false → items_at (stmt_at text.now deep) (length at.entry.toks.now + 1) (state_of at.entry) ≡ None) }
+    ensures err { IfErr result (λ e. is_memory e ≡ false → items_at (stmt_at text.now deep) (length at.entry.toks.now + 1) (state_of at.entry) ≡ Err e) }
 {
     let mut all = Vec::new(arena);
     let mut rest = at;
     loop {
-        if let Ok(after) = skip(text, rest, b'}') {
+        if let Ok(after) = skip(rest, b'}') {
             return Ok((into_bump_slice(all), after));
         }
         let (one, after) = stmt(arena, text, rest, deep)?;
@@ -278,13 +278,13 @@ fn block<'a, 't>(
     at: Rest<'t>,
     deep: u32,
 ) -> Result<(&'a [Stmt<'a>], Rest<'t>), ParseFault>
-    ensures ok { IfOk result (λ r. block_at text.now deep (state_of at.entry) ≡ Some (block_shape r.0.now, state_of r.1)) }
+    ensures ok { IfOk result (λ r. block_at text.now deep (state_of at.entry) ≡ Ok (block_shape r.0.now, state_of r.1)) }
     ensures shorter { IfOk result (λ r. length r.1.toks.now < length at.entry.toks.now) }
-    ensures err { IfErr result (λ e. is_memory e ≡ false → block_at text.now deep (state_of at.entry) ≡ None) }
+    ensures err { IfErr result (λ e. is_memory e ≡ false → block_at text.now deep (state_of at.entry) ≡ Err e) }
 {
-    let rest = skip(text, at, b'{')?;
+    let rest = skip(at, b'{')?;
     if deep == 0 {
-        return Err(ParseFault::Deep(place(text, at)));
+        return Err(ParseFault::Deep(place(at)));
     }
     braced(arena, text, rest, deep - 1)
 }

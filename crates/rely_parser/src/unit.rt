@@ -1,7 +1,9 @@
 // Functions, and the whole source.
-ghost use Rattle.std.specs.Prelude.{◌≡◌, ◌<◌, ◌≤◌, ◌+◌, ◌⊎◌, length, map, Some, None, IfOk, IfErr, false};
+ghost use Rattle.std.specs.Prelude.{◌≡◌, ◌<◌, ◌≤◌, ◌+◌, ◌⊎◌, length, map, Ok, Err, IfOk, IfErr, false};
+ghost use Rattle.rely_tree.specs.Tree.{UnitTree};
 ghost use Rattle.rely_tree.specs.Shape.{stmt_shape, block_shape, func_shape, unit_shape};
-ghost use Rattle.rely_parser.specs.State.{state_of, is_memory};
+ghost use Rattle.rely_parser.specs.State.{state_of, is_memory, end_of};
+ghost use Rattle.rely_parser.specs.Productions.{Spelled, Refuses};
 ghost use Rattle.rely_parser.specs.Units.{last_at, body_at, function_at, functions_at, unit_of};
 
 use crate::decl::{claims, locals, params};
@@ -36,13 +38,13 @@ fn last<'a, 't>(
     at: Rest<'t>,
     span: Span,
 ) -> Result<(Stmt<'a>, Rest<'t>), ParseFault>
-    ensures ok { IfOk result (λ r. last_at text.now span (state_of at.entry) ≡ Some (stmt_shape r.0, state_of r.1)) }
+    ensures ok { IfOk result (λ r. last_at text.now span (state_of at.entry) ≡ Ok (stmt_shape r.0, state_of r.1)) }
     ensures shorter { IfOk result (λ r. length r.1.toks.now < length at.entry.toks.now) }
-    ensures err { IfErr result (λ e. is_memory e ≡ false → last_at text.now span (state_of at.entry) ≡ None) }
+    ensures err { IfErr result (λ e. is_memory e ≡ false → last_at text.now span (state_of at.entry) ≡ Err e) }
 {
     let (value, rest) = expr(arena, text, at, MOST_INSIDE)?;
-    let rest = skip(text, rest, b';')?;
-    let rest = skip(text, rest, b'}')?;
+    let rest = skip(rest, b';')?;
+    let rest = skip(rest, b'}')?;
     Ok((Stmt::Return(span, value), rest))
 }
 
@@ -52,15 +54,15 @@ fn body<'a, 't>(
     text: &'a [u8],
     at: Rest<'t>,
 ) -> Result<(&'a [Stmt<'a>], Rest<'t>), ParseFault>
-    ensures ok { IfOk result (λ r. body_at text.now (state_of at.entry) ≡ Some (block_shape r.0.now, state_of r.1)) }
+    ensures ok { IfOk result (λ r. body_at text.now (state_of at.entry) ≡ Ok (block_shape r.0.now, state_of r.1)) }
     ensures shorter { IfOk result (λ r. length r.1.toks.now < length at.entry.toks.now) }
-    ensures err { IfErr result (λ e. is_memory e ≡ false → body_at text.now (state_of at.entry) ≡ None) }
+    ensures err { IfErr result (λ e. is_memory e ≡ false → body_at text.now (state_of at.entry) ≡ Err e) }
 {
     let mut all = Vec::new(arena);
     let mut rest = at;
     loop {
-        if let Ok(after) = skip_word(text, rest, Word::Return) {
-            let (token, _) = first(text, rest)?;
+        if let Ok(after) = skip_word(rest, Word::Return) {
+            let (token, _) = first(rest)?;
             let (one, after) = last(arena, text, after, token.span)?;
             all.push(one)?;
             return Ok((into_bump_slice(all), after));
@@ -78,21 +80,22 @@ fn function<'a, 't>(
     text: &'a [u8],
     at: Rest<'t>,
 ) -> Result<(Func<'a>, Rest<'t>), ParseFault>
-    ensures ok { IfOk result (λ r. function_at text.now (state_of at.entry) ≡ Some (func_shape r.0, state_of r.1)) }
+    ensures ok { IfOk result (λ r. function_at text.now (state_of at.entry) ≡ Ok (func_shape r.0, state_of r.1)) }
     ensures shorter { IfOk result (λ r. length r.1.toks.now < length at.entry.toks.now) }
-    ensures err { IfErr result (λ e. is_memory e ≡ false → function_at text.now (state_of at.entry) ≡ None) }
+    ensures err { IfErr result (λ e. is_memory e ≡ false → function_at text.now (state_of at.entry) ≡ Err e) }
 {
     let rest = Rest {
         toks: at.toks,
         variables: MOST_VARIABLES,
         operators: MOST_OPERATORS,
         calls: MOST_CALLS,
+        end: at.end,
     };
     let (name, rest) = name(text, rest)?;
-    let rest = skip(text, rest, b'(')?;
+    let rest = skip(rest, b'(')?;
     let (params, rest) = params(arena, text, rest)?;
     let (claims, rest) = claims(arena, text, rest)?;
-    let rest = skip(text, rest, b'{')?;
+    let rest = skip(rest, b'{')?;
     let (locals, rest) = locals(arena, text, rest)?;
     let (body, rest) = body(arena, text, rest)?;
     let read = Func {
@@ -102,13 +105,7 @@ fn function<'a, 't>(
         claims,
         body,
     };
-    Ok((
-        read,
-        Rest {
-            toks: rest.toks,
-            ..at
-        },
-    ))
+    Ok((read, rest))
 }
 
 /// The functions of a source.
@@ -117,16 +114,16 @@ fn functions<'a, 't>(
     text: &'a [u8],
     at: Rest<'t>,
 ) -> Result<(&'a [Func<'a>], Rest<'t>), ParseFault>
-    ensures ok { IfOk result (λ r. functions_at text.now (state_of at.entry) ≡ Some (map func_shape r.0.now, state_of r.1)) }
-    ensures err { IfErr result (λ e. is_memory e ≡ false → functions_at text.now (state_of at.entry) ≡ None) }
+    ensures ok { IfOk result (λ r. functions_at text.now (state_of at.entry) ≡ Ok (map func_shape r.0.now, state_of r.1)) }
+    ensures err { IfErr result (λ e. is_memory e ≡ false → functions_at text.now (state_of at.entry) ≡ Err e) }
 {
     let mut all = Vec::new(arena);
-    let start = skip_word(text, at, Word::Fn)?;
+    let start = skip_word(at, Word::Fn)?;
     let (one, mut rest) = function(arena, text, start)?;
     all.push(one)?;
-    while let Ok(after) = skip_word(text, rest, Word::Fn) {
+    while let Ok(after) = skip_word(rest, Word::Fn) {
         if all.len() >= MOST_FUNCTIONS {
-            return Err(ParseFault::Many(place(text, rest)));
+            return Err(ParseFault::Many(place(rest)));
         }
         let (one, after) = function(arena, text, after)?;
         all.push(one)?;
@@ -135,26 +132,46 @@ fn functions<'a, 't>(
     Ok((into_bump_slice(all), rest))
 }
 
-/// The tree of a source, or the first place where its tokens leave the grammar or a limit.
+/// The place behind a text.
+fn end(text: &[u8]) -> u32
+    ensures { result ≡ end_of text.now }
+{
+    u32::try_from(text.len()).unwrap_or(u32::MAX)
+}
+
+/// What `parse` answers, by its readers.
 #[tactic(auto, unfolding(crate::specs::Units::unit_of))]
-pub fn parse<'a>(
-    _alloc: Global,
-    arena: &'a Bump,
-    text: &'a [u8],
-    toks: &[Token],
-) -> Result<Unit<'a>, ParseFault>
-    ensures ok { IfOk result (λ u. unit_of text.now toks.now ≡ Some (unit_shape u)) }
-    ensures err { IfErr result (λ e. (e ≡ ParseFault.Memory) ⊎ (unit_of text.now toks.now ≡ None)) }
+fn unit<'a>(arena: &'a Bump, text: &'a [u8], toks: &[Token]) -> Result<Unit<'a>, ParseFault>
+    ensures ok { IfOk result (λ u. unit_of text.now toks.now ≡ Ok (unit_shape u)) }
+    ensures err { IfErr result (λ e. (e ≡ ParseFault.Memory) ⊎ (unit_of text.now toks.now ≡ Err e)) }
 {
     let start = Rest {
         toks,
         variables: 0,
         operators: 0,
         calls: 0,
+        end: end(text),
     };
     let (functions, rest) = functions(arena, text, start)?;
     if !rest.toks.is_empty() {
-        return Err(ParseFault::Expected(place(text, rest)));
+        return Err(ParseFault::Expected(place(rest)));
     }
     Ok(Unit { functions })
+}
+
+/// The tree of a source, or the first place where its tokens leave the grammar or a limit.
+#[tactic(auto, using(crate::proofs::Verdicts::sources))]
+pub fn parse<'a>(
+    _alloc: Global,
+    arena: &'a Bump,
+    text: &'a [u8],
+    toks: &[Token],
+) -> Result<Unit<'a>, ParseFault>
+    ensures ok { IfOk result (λ u. unit_of text.now toks.now ≡ Ok (unit_shape u)) }
+    ensures spells { IfOk result (λ u. Spelled text.now toks.now (unit_shape u)) }
+    ensures only { IfOk result (λ u. (v : UnitTree) → Spelled text.now toks.now v → v ≡ unit_shape u) }
+    ensures err { IfErr result (λ e. (e ≡ ParseFault.Memory) ⊎ (unit_of text.now toks.now ≡ Err e)) }
+    ensures refuses { IfErr result (λ e. Refuses text.now toks.now e) }
+{
+    unit(arena, text, toks)
 }

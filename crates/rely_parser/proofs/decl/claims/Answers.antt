@@ -1,7 +1,8 @@
-use Rattle.std.proofs.Common.{[], ◌∷◌, ◌++◌, ◌+◌, ◌-◌, Some, arith, ap, sym, ◌∙◌, length}
+use Rattle.std.proofs.Common.{Err, [], ◌∷◌, ◌++◌, ◌+◌, ◌-◌, Ok, arith, ap, sym, ◌∙◌, length}
 use Rattle.std.proofs.lemmas.Grind.{common_steps}
 use Rattle.rely_lexer.specs.declared.token.Word.TheVariants as word
 use Rattle.rely_tree.specs.Shape.{said_shape}
+use Rattle.rely_parser.specs.declared.fault.ParseFault.TheVariants as fault
 use Rattle.rely_parser.specs.State.{state_of}
 use Rattle.rely_parser.specs.Units.{each_behind, claim_at}
 use Rattle.rely_parser.proofs.Lists.{with_front, with_front-push, with_front-one, front-ended}
@@ -12,7 +13,7 @@ pub returns-in_err-start-clause-err : goal.returns-in_err-start-clause-err
 returns-in_err-start-clause-err c = grind (arith, common_steps, some-missing)
 
 pub returns-in-Err-clause-err : goal.returns-in-Err-clause-err
-returns-in-Err-clause-err c = grind (arith, common_steps, some-none)
+returns-in-Err-clause-err c = λ m. some-none _ _ _ _ _ _ c.in_ok-start.ensures.ok (c.in-Err.ensures.err m)
 
 pub loop-after-init : goal.loop-after-init
 loop-after-init c =
@@ -32,9 +33,13 @@ returns-then-len-ge-MOST_CLAIMS-clause-err c =
     let o = c.loop-after.all.ok in
     λ _. sym c.loop-after.invariant.same
     ∙ ap (with_front said_shape c.loop-after.all.items) (each-full _ _ _ _ _ (omega (arith, c.loop-after.invariant.left)) c.in-Ok-skip_word.ensures.ok)
+    ∙ ap (λ p. Err (fault.Many p)) (sym c.place.ensures)
 
 pub returns-in-Err-claim-clause-err : goal.returns-in-Err-claim-clause-err
-returns-in-Err-claim-clause-err c = grind (arith, common_steps, each-none)
+returns-in-Err-claim-clause-err c =
+    let o = c.loop-after.all.ok in
+    λ m. sym c.loop-after.invariant.same
+    ∙ ap (with_front said_shape c.loop-after.all.items) (each-none _ _ _ _ _ _ (omega (arith, c.loop-after.invariant.left)) c.in-Ok-skip_word.ensures.ok (c.in-Err-claim.ensures.err m))
 
 pub loop-after-preserved : goal.loop-after-preserved
 loop-after-preserved c =
@@ -56,5 +61,5 @@ pub returns-clause-ok : goal.returns-clause-ok
 returns-clause-ok c =
     rw c.into_bump_slice.ensures
     (sym c.loop-after.invariant.same
-    ∙ ap (with_front said_shape c.loop-after.all.items) (each-end _ _ _ _ c.in_default-skip_word.ensures.err.1)
-    ∙ ap (λ b. Some (b, state_of c.loop-after.rest)) (front-ended said_shape c.loop-after.all.items))
+    ∙ ap (with_front said_shape c.loop-after.all.items) (each-end _ _ _ _ _ c.in_default-skip_word.ensures.err)
+    ∙ ap (λ b. Ok (b, state_of c.loop-after.rest)) (front-ended said_shape c.loop-after.all.items))

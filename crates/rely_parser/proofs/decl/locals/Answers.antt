@@ -1,13 +1,19 @@
-use Rattle.std.proofs.Common.{◌-◌, Some, arith, ap, sym, ◌∙◌, length}
+use Rattle.std.proofs.Common.{◌≡◌, Err, ◌-◌, Ok, arith, ap, sym, ◌∙◌}
 use Rattle.std.proofs.lemmas.Grind.{common_steps}
 use Rattle.rely_tree.specs.Shape.{decl_shape}
 use Rattle.rely_parser.specs.State.{state_of}
+use Rattle.rely_parser.specs.Units.{locals_at}
 use Rattle.rely_parser.proofs.Lists.{with_front, with_front-push, front-ended}
 use Rattle.rely_parser.proofs.Each.{each-end, each-none, each-more}
 use Rattle.rely_parser.proofs.decl.locals.Goals as goal
 
 pub returns-in_err-one-clause-err : goal.returns-in_err-one-clause-err
-returns-in_err-one-clause-err c = grind (arith, common_steps, each-none)
+returns-in_err-one-clause-err c =
+    let cut = c.in-Ok.ensures.shorter in
+    let bad : locals_at c.args.text.now (state_of c.args.at) ≡ Err c.in_err-one.field-0.0 =
+    sym c.loop-after.invariant.same
+    ∙ ap (with_front decl_shape c.loop-after.all.items) (each-none _ _ _ _ _ _ (omega (arith, cut, c.loop-after.invariant.enough)) c.in-Ok.ensures.ok c.in_err-one.ensures.err) in
+    grind (arith, common_steps, bad)
 
 pub loop-after-preserved : goal.loop-after-preserved
 loop-after-preserved c =
@@ -28,5 +34,5 @@ pub returns-clause-ok : goal.returns-clause-ok
 returns-clause-ok c =
     rw c.into_bump_slice.ensures
     (sym c.loop-after.invariant.same
-    ∙ ap (with_front decl_shape c.loop-after.all.items) (each-end _ _ _ _ c.in_default.ensures.err.1)
-    ∙ ap (λ b. Some (b, state_of c.loop-after.rest)) (front-ended decl_shape c.loop-after.all.items))
+    ∙ ap (with_front decl_shape c.loop-after.all.items) (each-end _ _ _ _ _ c.in_default.ensures.err)
+    ∙ ap (λ b. Ok (b, state_of c.loop-after.rest)) (front-ended decl_shape c.loop-after.all.items))

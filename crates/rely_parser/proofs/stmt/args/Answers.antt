@@ -1,9 +1,9 @@
-use Rattle.std.proofs.Common.{[], ◌∷◌, ◌++◌, Some, arith, ap, sym, ◌∙◌, ◌+◌, ◌-◌, length}
+use Rattle.std.proofs.Common.{◌≡◌, false, Err, [], ◌∷◌, ◌++◌, Ok, arith, ap, sym, ◌∙◌, ◌+◌, ◌-◌, length}
 use Rattle.std.proofs.lemmas.Grind.{common_steps}
 use Rattle.rely_tree.specs.Shape.{expr_shape}
-use Rattle.rely_parser.specs.State.{state_of}
+use Rattle.rely_parser.specs.State.{state_of, is_memory}
 use Rattle.rely_parser.specs.Grammar.{expr_at}
-use Rattle.rely_parser.specs.Statements.{more_of}
+use Rattle.rely_parser.specs.Statements.{more_of, list_of}
 use Rattle.rely_parser.proofs.Lists.{with_front, with_front-push, with_front-one, front-ended, list_of-end, list_of-none, list_of-some, more_of-end, more_of-bad, more_of-none, more_of-more}
 use Rattle.rely_parser.proofs.stmt.args.Goals as goal
 
@@ -22,11 +22,15 @@ loop-after-init c = record {
       ap (λ xs. with_front expr_shape xs (more_of (expr_at c.args.text.now c.args.deep) (length c.in_ok-one.rest.toks.now + 1) (state_of c.in_ok-one.rest)))
       (c.in_ok-push.ensures.items ∙ ap (λ xs. xs ++ c.in_ok-one.one ∷ []) c.new-all.ensures.items)
       ∙ with_front-one expr_shape c.in_ok-one.one _
-      ∙ list_of-some _ _ _ _ c.in_default.ensures.err.1 c.in_ok-one.ensures.ok;
+      ∙ list_of-some _ _ _ _ _ c.in_default.ensures.err c.in_ok-one.ensures.ok;
 }
 
 pub returns-in_err-one-2-clause-err : goal.returns-in_err-one-2-clause-err
-returns-in_err-one-2-clause-err c = grind (arith, common_steps, more_of-none)
+returns-in_err-one-2-clause-err c =
+    let bad : is_memory c.in_err-one-2.field-0.0 ≡ false → list_of (expr_at c.args.text.now c.args.deep) (state_of c.args.at) ≡ Err c.in_err-one-2.field-0.0 =
+    λ m. sym c.loop-after.invariant.same
+    ∙ ap (with_front expr_shape c.loop-after.all.items) (more_of-none _ _ _ _ _ (omega (arith, c.loop-after.invariant.enough)) c.in-Ok-skip.ensures.ok (c.in_err-one-2.ensures.err m)) in
+    grind (arith, common_steps, bad)
 
 pub loop-after-preserved : goal.loop-after-preserved
 loop-after-preserved c =
@@ -50,5 +54,5 @@ pub returns-clause-ok : goal.returns-clause-ok
 returns-clause-ok c =
     rw c.into_bump_slice-2.ensures
     (sym c.loop-after.invariant.same
-    ∙ ap (with_front expr_shape c.loop-after.all.items) (more_of-end _ _ _ _ (omega (arith, c.loop-after.invariant.enough)) c.in_default-skip.ensures.err.1 c.in_ok-rest.ensures.ok)
-    ∙ ap (λ b. Some (b, state_of c.in_ok-rest.rest)) (front-ended expr_shape c.loop-after.all.items))
+    ∙ ap (with_front expr_shape c.loop-after.all.items) (more_of-end _ _ _ _ _ (omega (arith, c.loop-after.invariant.enough)) c.in_default-skip.ensures.err c.in_ok-rest.ensures.ok)
+    ∙ ap (λ b. Ok (b, state_of c.in_ok-rest.rest)) (front-ended expr_shape c.loop-after.all.items))

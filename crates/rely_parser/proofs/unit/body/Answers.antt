@@ -1,15 +1,26 @@
-use Rattle.std.proofs.Common.{◌-◌, Some, arith, ap, sym, ◌∙◌}
+use Rattle.std.proofs.Common.{◌≡◌, false, Err, ◌-◌, Ok, arith, ap, sym, ◌∙◌}
 use Rattle.std.proofs.lemmas.Grind.{common_steps}
-use Rattle.rely_parser.specs.State.{state_of}
+use Rattle.rely_parser.specs.State.{state_of, is_memory}
+use Rattle.rely_parser.specs.Units.{body_at}
 use Rattle.rely_parser.proofs.Blocks.{with_stmts, with_stmts-push}
 use Rattle.rely_parser.proofs.Each.{stmts_front-last, body_of-end, body_of-bad, body_of-none, body_of-more}
 use Rattle.rely_parser.proofs.unit.body.Goals as goal
 
 pub returns-in_err-one-clause-err : goal.returns-in_err-one-clause-err
-returns-in_err-one-clause-err c = grind (arith, common_steps, body_of-bad)
+returns-in_err-one-clause-err c =
+    let bad : is_memory c.in_err-one.field-0.0 ≡ false → body_at c.args.text.now (state_of c.args.at) ≡ Err c.in_err-one.field-0.0 =
+    λ m. sym c.loop-after.invariant.same
+    ∙ ap (with_stmts c.loop-after.all.items)
+    (body_of-bad _ _ _ _ _ _ _ (omega (arith, c.loop-after.invariant.enough)) c.in-Ok.ensures.ok c.in_ok-token.ensures.ok (c.in_err-one.ensures.err m)) in
+    grind (arith, common_steps, bad)
 
 pub returns-in_err-one-2-clause-err : goal.returns-in_err-one-2-clause-err
-returns-in_err-one-2-clause-err c = grind (arith, common_steps, body_of-none)
+returns-in_err-one-2-clause-err c =
+    let bad : is_memory c.in_err-one-2.field-0.0 ≡ false → body_at c.args.text.now (state_of c.args.at) ≡ Err c.in_err-one-2.field-0.0 =
+    λ m. sym c.loop-after.invariant.same
+    ∙ ap (with_stmts c.loop-after.all.items)
+    (body_of-none _ _ _ _ _ (omega (arith, c.loop-after.invariant.enough)) c.in_default.ensures.err (c.in_err-one-2.ensures.err m)) in
+    grind (arith, common_steps, bad)
 
 pub loop-after-preserved : goal.loop-after-preserved
 loop-after-preserved c = record {
@@ -19,7 +30,7 @@ loop-after-preserved c = record {
   same =
       rw c.in_ok-push-2.ensures.items
       (with_stmts-push c.loop-after.all.items c.in_ok-one-2.one _
-      ∙ ap (with_stmts c.loop-after.all.items) (body_of-more _ _ _ _ _ c.in_default.ensures.err.1 (omega (arith, c.loop-after.invariant.enough)) c.in_ok-one-2.ensures.ok)
+      ∙ ap (with_stmts c.loop-after.all.items) (body_of-more _ _ _ _ _ _ c.in_default.ensures.err (omega (arith, c.loop-after.invariant.enough)) c.in_ok-one-2.ensures.ok)
       ∙ c.loop-after.invariant.same);
 }
 
@@ -29,4 +40,4 @@ returns-in-Ok-clause-ok c =
     (sym c.loop-after.invariant.same
     ∙ ap (with_stmts c.loop-after.all.items)
     (body_of-end _ _ _ _ _ _ _ _ (omega (arith, c.loop-after.invariant.enough)) c.in-Ok.ensures.ok c.in_ok-token.ensures.ok c.in_ok-one.ensures.ok)
-    ∙ ap (λ b. Some (b, state_of c.in_ok-one.after)) (stmts_front-last c.loop-after.all.items c.in_ok-one.one))
+    ∙ ap (λ b. Ok (b, state_of c.in_ok-one.after)) (stmts_front-last c.loop-after.all.items c.in_ok-one.one))

@@ -1,7 +1,8 @@
-use Rattle.std.proofs.Common.{[], ◌∷◌, ◌++◌, ◌+◌, ◌-◌, ◌≡◌, false, Some, None, arith, ap, sym, ◌∙◌, length}
+use Rattle.std.proofs.Common.{Err, [], ◌∷◌, ◌++◌, ◌+◌, ◌-◌, ◌≡◌, false, Ok, arith, ap, sym, ◌∙◌, length}
 use Rattle.std.proofs.lemmas.Grind.{common_steps}
 use Rattle.rely_lexer.specs.declared.token.Word.TheVariants as word
 use Rattle.rely_tree.specs.Shape.{func_shape}
+use Rattle.rely_parser.specs.declared.fault.ParseFault.TheVariants as fault
 use Rattle.rely_parser.specs.State.{state_of, is_memory}
 use Rattle.rely_parser.specs.Units.{each_behind, function_at, functions_at}
 use Rattle.rely_parser.proofs.Lists.{with_front, with_front-push, with_front-one, front-ended}
@@ -12,7 +13,10 @@ pub returns-in_err-start-clause-err : goal.returns-in_err-start-clause-err
 returns-in_err-start-clause-err c = grind (arith, common_steps, some-missing)
 
 pub returns-in_err-one-clause-err : goal.returns-in_err-one-clause-err
-returns-in_err-one-clause-err c = grind (arith, common_steps, some-none)
+returns-in_err-one-clause-err c =
+    let bad : is_memory c.in_err-one.field-0.0 ≡ false → functions_at c.args.text.now (state_of c.args.at) ≡ Err c.in_err-one.field-0.0 =
+    λ m. some-none _ _ _ _ _ _ c.in_ok-start.ensures.ok (c.in_err-one.ensures.err m) in
+    grind (arith, common_steps, bad)
 
 pub loop-after-init : goal.loop-after-init
 loop-after-init c =
@@ -32,13 +36,15 @@ returns-then-len-ge-MOST_FUNCTIONS-clause-err c =
     let o = c.loop-after.all.ok in
     λ _. sym c.loop-after.invariant.same
     ∙ ap (with_front func_shape c.loop-after.all.items) (each-full _ _ _ _ _ (omega (arith, c.loop-after.invariant.left)) c.in-Ok.ensures.ok)
+    ∙ ap (λ p. Err (fault.Many p)) (sym c.place.ensures)
 
 pub returns-in_err-one-2-clause-err : goal.returns-in_err-one-2-clause-err
 returns-in_err-one-2-clause-err c =
-    let none : is_memory c.in_err-one-2.field-0.0 ≡ false → functions_at c.args.text.now (state_of c.args.at) ≡ None =
+    let o = c.loop-after.all.ok in
+    let bad : is_memory c.in_err-one-2.field-0.0 ≡ false → functions_at c.args.text.now (state_of c.args.at) ≡ Err c.in_err-one-2.field-0.0 =
     λ m. sym c.loop-after.invariant.same
-    ∙ ap (with_front func_shape c.loop-after.all.items) (each-none _ _ _ _ _ c.in-Ok.ensures.ok (c.in_err-one-2.ensures.err m)) in
-    grind (arith, common_steps, none)
+    ∙ ap (with_front func_shape c.loop-after.all.items) (each-none _ _ _ _ _ _ (omega (arith, c.loop-after.invariant.left)) c.in-Ok.ensures.ok (c.in_err-one-2.ensures.err m)) in
+    grind (arith, common_steps, bad)
 
 pub loop-after-preserved : goal.loop-after-preserved
 loop-after-preserved c =
@@ -60,5 +66,5 @@ pub returns-clause-ok : goal.returns-clause-ok
 returns-clause-ok c =
     rw c.into_bump_slice.ensures
     (sym c.loop-after.invariant.same
-    ∙ ap (with_front func_shape c.loop-after.all.items) (each-end _ _ _ _ c.in_default.ensures.err.1)
-    ∙ ap (λ b. Some (b, state_of c.loop-after.rest)) (front-ended func_shape c.loop-after.all.items))
+    ∙ ap (with_front func_shape c.loop-after.all.items) (each-end _ _ _ _ _ c.in_default.ensures.err)
+    ∙ ap (λ b. Ok (b, state_of c.loop-after.rest)) (front-ended func_shape c.loop-after.all.items))
