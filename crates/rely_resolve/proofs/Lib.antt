@@ -1,0 +1,16 @@
+pub mod Counted
+pub mod Firsts
+pub mod Least
+pub mod Linking
+pub mod Numbers
+pub mod Places
+pub mod Tables
+pub mod ValidBody
+pub mod ValidCalls
+pub mod ValidClaims
+pub mod ValidKernel
+pub mod ValidLinked
+pub mod ValidNames
+pub mod ValidOn
+pub mod ValidSites
+pub mod ValidVars
