@@ -1,0 +1,9 @@
+use Rattle.rely_machine.proofs.EnergyRuns.{runs_cost}
+use Rattle.rely_machine.proofs.cost.energy.Goals as goal
+
+pub returns : goal.returns
+returns c =
+    record {
+      cost = λ starts a. rw c.energy_of_runs.ensures
+          (runs_cost c.args.h.now c.requires.hardware c.args.k.now c.requires.linked starts c.args.runs.now c.requires.few c.requires.short a);
+    }

@@ -1,0 +1,4 @@
+pub mod Cost
+pub mod EnergySums
+pub mod Going
+pub mod Run

@@ -1,0 +1,22 @@
+//! The reliable run of a linked function: where it ends, how often it takes each label, and what it costs in energy.
+//! The layers above use `run` on each sample, and `energy` on the outcomes.
+#![tactic(auto)]
+
+mod cost;
+mod fault;
+mod function;
+mod held;
+mod lists;
+mod outcome;
+mod reliable;
+mod tally;
+mod value;
+mod walk;
+
+pub use cost::energy;
+pub use fault::RunFault;
+pub use outcome::Outcome;
+pub use reliable::run;
+
+#[cfg(test)]
+mod tests;
