@@ -1,0 +1,22 @@
+mod Examples
+pub mod Bumps
+pub mod Carried
+pub mod Claims
+pub mod Grown
+pub mod Insides
+pub mod Iterated
+pub mod Joining
+pub mod Law
+pub mod Limits
+pub mod LineLemmas
+pub mod OnePath
+pub mod Parts
+pub mod Plain
+pub mod Raised
+pub mod Sets
+pub mod Shape
+pub mod Steps
+pub mod Stops
+pub mod Tested
+pub mod Turning
+pub mod Weights

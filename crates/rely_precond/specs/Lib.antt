@@ -1,0 +1,6 @@
+pub mod Answers
+pub mod InRange
+pub mod Inside
+pub mod Places
+pub mod Prefixes
+pub mod Walk

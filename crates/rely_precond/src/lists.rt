@@ -1,0 +1,182 @@
+//! Lists of conjuncts: copies of those of a predicate, and what a step of the walk makes of them.
+ghost use Rattle.std.specs.Prelude.{◌≡◌, ◌-◌, ◌^◌, ◌++◌, [], ◌∷◌, bit_and, ◌==◌, not, filter, map, length, IfErr, IfOk, IfSome, IsNone, IsTrue};
+ghost use Rattle.rely_kernel.specs.Machine.{parameters};
+ghost use Rattle.rely_kernel.specs.Paths.{writes, skips, past, paths, use_of, at_start};
+ghost use Rattle.rely_kernel.specs.Text.{expr_of, stmt_of};
+ghost use Rattle.rely_kernel.specs.Valid.{IsValid};
+ghost use Rattle.rely_loops.specs.Grown.{too_many};
+ghost use Rattle.rely_precond.specs.Answers.{IsFull};
+ghost use Rattle.rely_precond.specs.InRange.{ExprInRange, StmtInRange, is_plain};
+ghost use Rattle.rely_precond.specs.Places.{line_of};
+ghost use Rattle.rely_precond.specs.Walk.{changed};
+
+use crate::fault::PreFault;
+use crate::growth::{through, use_of};
+use rely_kernel::{Ex, Kernel, StKind};
+use rely_num::{Conj, List, Span, VarSet};
+use std::alloc::Global;
+
+fn copy(alloc: Global, c: &Conj) -> Result<Conj, PreFault>
+    ensures ok { IfOk result (λ d. d ≡ c.now) }
+    ensures err { IfErr result (λ f. f ≡ PreFault.Memory) }
+{
+    let counts = Vec::from_slice(alloc, c.counts.as_slice())?;
+    Ok(Conj {
+        counts: List::from_vec(counts),
+        vars: c.vars,
+    })
+}
+
+/// A list with copies of conjuncts behind it.
+pub(crate) fn with_copies(
+    alloc: Global,
+    list: Vec<Conj>,
+    conjs: &[Conj],
+) -> Result<Vec<Conj>, PreFault>
+    ensures ok { IfOk result (λ longer. longer.items ≡ list.items ++ conjs.now) }
+    ensures err { IfErr result (λ f. f ≡ PreFault.Memory) }
+{
+    let mut longer = list;
+    for c in conjs {
+        longer.push(copy(alloc, c)?)?;
+    }
+    Ok(longer)
+}
+
+fn is_skipped(written: VarSet, c: &Conj) -> bool
+    ensures { result ≡ (bit_and written.bits c.now.vars.bits == 0) }
+{
+    written.bits & c.vars.bits == 0
+}
+
+/// The conjuncts that have none of these variables.
+pub(crate) fn untouched(
+    alloc: Global,
+    written: VarSet,
+    conjs: &[Conj],
+) -> Result<Vec<Conj>, PreFault>
+    ensures ok { IfOk result (λ list. list.items ≡ filter (λ c. bit_and written.bits c.vars.bits == 0) conjs.now) }
+    ensures err { IfErr result (λ f. f ≡ PreFault.Memory) }
+{
+    let mut list = Vec::new(alloc);
+    for c in conjs {
+        if is_skipped(written, c) {
+            list.push(copy(alloc, c)?)?;
+        }
+    }
+    Ok(list)
+}
+
+/// The conjuncts that have one of them.
+pub(crate) fn touched(alloc: Global, written: VarSet, conjs: &[Conj]) -> Result<Vec<Conj>, PreFault>
+    ensures ok { IfOk result (λ list. list.items ≡ filter (λ c. not (bit_and written.bits c.vars.bits == 0)) conjs.now) }
+    ensures err { IfErr result (λ f. f ≡ PreFault.Memory) }
+{
+    let mut list = Vec::new(alloc);
+    for c in conjs {
+        if !is_skipped(written, c) {
+            list.push(copy(alloc, c)?)?;
+        }
+    }
+    Ok(list)
+}
+
+/// A list with conjuncts behind it that have the labels and the names of a condition added.
+pub(crate) fn with_tested(
+    alloc: Global,
+    k: &Kernel,
+    at: Span,
+    e: &Ex,
+    list: Vec<Conj>,
+    conjs: &[Conj],
+) -> Result<Vec<Conj>, PreFault>
+    requires valid { IsValid k.now }
+    requires in_range { ExprInRange k.now (expr_of e.now) }
+    ensures ok { IfOk result (λ longer. longer.items ≡ list.items ++ map (use_of k.now (expr_of e.now)) conjs.now) }
+    ensures err { IfErr result (λ f. IsFull at (map (use_of k.now (expr_of e.now)) conjs.now) f) }
+{
+    let mut longer = list;
+    for c in conjs {
+        let Some(tested) = use_of(k, e, copy(alloc, c)?) else {
+            return Err(PreFault::Count(at));
+        };
+        longer.push(tested)?;
+    }
+    Ok(longer)
+}
+
+// The one path of a conjunct through a statement that is neither a choice nor a loop, or past it.
+fn past(k: &Kernel, what: &StKind, written: VarSet, c: Conj) -> Option<Conj>
+    requires valid { IsValid k.now }
+    requires in_range { StmtInRange k.now (stmt_of what.now) }
+    requires plain { IsTrue (is_plain (stmt_of what.now)) }
+    requires written { written.bits ≡ writes (stmt_of what.now) }
+    ensures path { IfSome result (λ d. past (skips (stmt_of what.now) c) (paths k.now (stmt_of what.now)) c ≡ d ∷ []) }
+    ensures full { IsNone result → IsTrue (too_many (past (skips (stmt_of what.now) c) (paths k.now (stmt_of what.now)) c)) }
+{
+    if is_skipped(written, &c) {
+        return Some(c);
+    }
+    through(k, what, c)
+}
+
+/// What a statement that is neither a choice nor a loop makes of each conjunct.
+pub(crate) fn changed(
+    alloc: Global,
+    k: &Kernel,
+    at: Span,
+    what: &StKind,
+    written: VarSet,
+    conjs: &[Conj],
+) -> Result<Vec<Conj>, PreFault>
+    requires valid { IsValid k.now }
+    requires in_range { StmtInRange k.now (stmt_of what.now) }
+    requires plain { IsTrue (is_plain (stmt_of what.now)) }
+    requires written { written.bits ≡ writes (stmt_of what.now) }
+    ensures ok { IfOk result (λ list. list.items ≡ changed k.now (line_of what.now) conjs.now) }
+    ensures err { IfErr result (λ f. IsFull at (changed k.now (line_of what.now) conjs.now) f) }
+{
+    let mut list = Vec::new(alloc);
+    for c in conjs {
+        let Some(next) = past(k, what, written, copy(alloc, c)?) else {
+            return Err(PreFault::Count(at));
+        };
+        list.push(next)?;
+    }
+    Ok(list)
+}
+
+/// The conjuncts with only the parameters kept of their variables.
+pub(crate) fn at_start(alloc: Global, k: &Kernel, conjs: &[Conj]) -> Result<Vec<Conj>, PreFault>
+    requires { IsValid k.now }
+    ensures ok { IfOk result (λ list. list.items ≡ map (at_start k.now) conjs.now) }
+    ensures err { IfErr result (λ f. f ≡ PreFault.Memory) }
+{
+    let parameters = parameters(k);
+    let mut list = Vec::new(alloc);
+    for c in conjs {
+        let counts = Vec::from_slice(alloc, c.counts.as_slice())?;
+        list.push(Conj {
+            counts: List::from_vec(counts),
+            vars: VarSet {
+                bits: c.vars.bits & parameters.bits,
+            },
+        })?;
+    }
+    Ok(list)
+}
+
+fn parameters(k: &Kernel) -> VarSet
+    requires { IsValid k.now }
+    ensures { result.bits ≡ 2 ^ length (parameters k.now) - 1 }
+{
+    VarSet {
+        bits: (1 << first_local(k)) - 1,
+    }
+}
+
+fn first_local(k: &Kernel) -> usize
+    ensures { result ≡ length (parameters k.now) }
+{
+    k.vars.as_slice().iter().filter(|var| var.param).count()
+}

@@ -1,0 +1,113 @@
+//! Lists that stand after a step of the walk, and the three limits that keep them from it.
+ghost use Rattle.std.specs.Prelude.{◌≡◌, ◌≤◌, ◌^◌, [], length, nat_le, IfErr, IfOk, Some, None};
+ghost use Rattle.std.specs.List.{All, list_any};
+ghost use Rattle.rely_loops.specs.Grown.{too_many};
+ghost use Rattle.rely_predicate.specs.Top.{top};
+ghost use Rattle.rely_precond.specs.Answers.{IsStop};
+ghost use Rattle.rely_precond.specs.Walk.{Stands, added, worked, stand};
+
+use crate::fault::PreFault;
+use crate::growth::MOST_COUNT;
+use rely_num::{Conj, Span};
+use rely_predicate::{PredFault, Predicate};
+use std::alloc::Global;
+
+/// A predicate on its way, and the work so far.
+#[derive(Drop)]
+pub(crate) struct Listed {
+    pub(crate) list: Predicate,
+    pub(crate) work: u64,
+}
+
+const MOST_WORK: u64 = 1 << 24;
+
+/// Whether a count reaches 2^36.
+pub(crate) fn are_too_many(conjs: &[Conj]) -> bool
+    ensures { result ≡ too_many conjs.now }
+{
+    conjs.iter().any(|c| has_too_many(c.counts.as_slice()))
+}
+
+fn has_too_many(counts: &[u64]) -> bool
+    ensures { result ≡ list_any (nat_le (2 ^ 36)) counts.now }
+{
+    counts.iter().any(|n| *n > MOST_COUNT)
+}
+
+// A predicate with the conjuncts of a list, added one by one.
+fn gathered(alloc: Global, labels: u32, list: Vec<Conj>) -> Result<Predicate, PredFault>
+    requires { All (λ c. length c.counts ≡ labels) list.items }
+    ensures ok { IfOk result (λ p. added [] list.items ≡ Some p.conjs) }
+    ensures labels { IfOk result (λ p. p.labels ≡ labels) }
+    ensures wide { IfErr result (λ f. f ≡ PredFault.Wide → added [] list.items ≡ None) }
+{
+    let mut gathered = Predicate::new(alloc, labels);
+    for c in list {
+        gathered.add(c)?;
+    }
+    Ok(gathered)
+}
+
+/// The predicate of a list that is short enough.
+pub(crate) fn of_few(alloc: Global, labels: u32, list: Vec<Conj>) -> Result<Predicate, PreFault>
+    requires counted { All (λ c. length c.counts ≡ labels) list.items }
+    requires few { length list.items ≤ 256 }
+    ensures ok { IfOk result (λ p. p.conjs ≡ top list.items) }
+    ensures labels { IfOk result (λ p. p.labels ≡ labels) }
+    ensures err { IfErr result (λ f. f ≡ PreFault.Memory) }
+{
+    match gathered(alloc, labels, list) {
+        Ok(p) => Ok(p),
+        Err(PredFault::Memory) => Err(PreFault::Memory),
+        Err(PredFault::Wide) => unreachable!(),
+    }
+}
+
+/// The work grows by the square of the number of conjuncts.
+pub(crate) fn worked(at: Span, list: Predicate, work: u64) -> Result<Listed, PreFault>
+    ensures ok { IfOk result (λ l. worked at (Some list.conjs) work ≡ Stands l.list.conjs l.work) }
+    ensures labels { IfOk result (λ l. l.list.labels ≡ list.labels) }
+    ensures refused { IfErr result (λ f. IsStop (worked at (Some list.conjs) work) f) }
+{
+    let n = list.conjs().len() as u64;
+    let more = work.saturating_add(n * n);
+    if more > MOST_WORK {
+        return Err(PreFault::Work(at));
+    }
+    Ok(Listed { list, work: more })
+}
+
+/// What stands of a new list.
+pub(crate) fn stand(
+    alloc: Global,
+    labels: u32,
+    at: Span,
+    list: Vec<Conj>,
+    work: u64,
+) -> Result<Listed, PreFault>
+    requires { All (λ c. length c.counts ≡ labels) list.items }
+    ensures ok { IfOk result (λ l. stand at list.items work ≡ Stands l.list.conjs l.work) }
+    ensures labels { IfOk result (λ l. l.list.labels ≡ labels) }
+    ensures refused { IfErr result (λ f. IsStop (stand at list.items work) f) }
+{
+    if are_too_many(&list) {
+        return Err(PreFault::Count(at));
+    }
+    match gathered(alloc, labels, list) {
+        Ok(p) => worked(at, p, work),
+        Err(PredFault::Memory) => Err(PreFault::Memory),
+        Err(PredFault::Wide) => Err(PreFault::Wide(at)),
+    }
+}
+
+/// The same of a list that stands already: it changes nothing but the work.
+pub(crate) fn stand_again(at: Span, listed: Listed) -> Result<Listed, PreFault>
+    ensures ok { IfOk result (λ l. stand at listed.list.conjs listed.work ≡ Stands l.list.conjs l.work) }
+    ensures labels { IfOk result (λ l. l.list.labels ≡ listed.list.labels) }
+    ensures refused { IfErr result (λ f. IsStop (stand at listed.list.conjs listed.work) f) }
+{
+    if are_too_many(listed.list.conjs()) {
+        return Err(PreFault::Count(at));
+    }
+    worked(at, listed.list, listed.work)
+}
