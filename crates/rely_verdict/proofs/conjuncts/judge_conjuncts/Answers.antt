@@ -1,6 +1,6 @@
 use Rattle.rely_kernel.specs.Rates.{rates}
 use Rattle.rely_verdict.proofs.JudgedLaw.{needs_verdict, below_verdict, undecided_verdict, accepted_verdict, judged_near, judged_sound}
-use Rattle.rely_verdict.proofs.judge.judge_conjuncts.Goals as goal
+use Rattle.rely_verdict.proofs.conjuncts.judge_conjuncts.Goals as goal
 
 pub returns-in-Some-clause-exact : goal.returns-in-Some-clause-exact
 returns-in-Some-clause-exact c =

@@ -2,7 +2,7 @@ use Rattle.std.proofs.Common.{◌≡◌, drop, fold, map, min}
 use Rattle.rely_num.specs.Bounds.{S}
 use Rattle.rely_kernel.specs.Rates.{rates}
 use Rattle.rely_verdict.specs.Judged.{lo}
-use Rattle.rely_verdict.proofs.judge.least.Given as goal
+use Rattle.rely_verdict.proofs.conjuncts.least.Given as goal
 
 abbrev pub invariant-loop-conjunct : goal.invariant-loop-conjunct
 invariant-loop-conjunct l =

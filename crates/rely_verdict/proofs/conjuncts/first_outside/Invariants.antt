@@ -1,6 +1,6 @@
 use Rattle.std.proofs.Common.{◌≡◌, drop, filter_map, slice_get}
 use Rattle.rely_verdict.specs.Judged.{outside}
-use Rattle.rely_verdict.proofs.judge.first_outside.Given as goal
+use Rattle.rely_verdict.proofs.conjuncts.first_outside.Given as goal
 
 abbrev pub invariant-loop-conjunct : goal.invariant-loop-conjunct
 invariant-loop-conjunct l =

@@ -2,7 +2,7 @@ use Rattle.std.proofs.Common.{◌≡◌, length, slice_get, Some, arith}
 use Rattle.std.proofs.lemmas.Option.{slice_get_read}
 use Rattle.rely_verdict.specs.Judged.{outside}
 use Rattle.rely_verdict.proofs.Steps.{first_here, first_later}
-use Rattle.rely_verdict.proofs.judge.first_outside.Goals as goal
+use Rattle.rely_verdict.proofs.conjuncts.first_outside.Goals as goal
 
 pub returns-then-is_some : goal.returns-then-is_some
 returns-then-is_some c =
