@@ -6,4 +6,6 @@ mod fixture;
 #[cfg(test)]
 mod outside;
 #[cfg(test)]
+mod simulate;
+#[cfg(test)]
 mod verify;

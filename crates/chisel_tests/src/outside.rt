@@ -1,6 +1,6 @@
 //! Fetches and puts that fail.
 
-use crate::fixture::{ADD, Ended, HARDWARE, never, ran};
+use crate::fixture::{ADD, Ended, never, ran, source};
 use chisel_top::Status;
 use std::alloc::{AllocError, Global};
 use std::test::Fail;
@@ -9,7 +9,7 @@ use std::test::Fail;
 fn cut(alloc: Global, words: &[&str], put: u64, taken: usize) -> Result<Ended, AllocError> {
     let mut failing = never(alloc);
     failing.puts.push((put, taken))?;
-    ran(alloc, words, ADD, HARDWARE, failing)
+    ran(alloc, words, source(ADD), failing)
 }
 
 #[test]
@@ -18,7 +18,7 @@ fn a_fetch_fails(rt: HostRuntime) -> Result<(), Fail> {
     let mut failing = never(alloc);
     failing.fetches.push(2)?;
     let words = ["verify", "s", "hw.json", "add"];
-    let done = ran(alloc, &words, ADD, HARDWARE, failing)?;
+    let done = ran(alloc, &words, source(ADD), failing)?;
     assert_eq!(rt; done.text.as_slice(), b"fault read hw.json\n".as_slice());
     assert_eq!(rt; done.status, Status::ReadFault);
     Ok(())

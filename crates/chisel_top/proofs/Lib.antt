@@ -1,8 +1,10 @@
-pub mod FirstKernels
-pub mod FirstPaths
-pub mod FirstReading
+pub mod Agreements
+pub mod Claiming
+pub mod Fetchings
 pub mod Headline
-pub mod Judging
+pub mod OneAnswers
+pub mod ParsedUnits
+pub mod Readiness
 pub mod Runs
+pub mod Simulating
 pub mod Tellings
-pub mod Verifying

@@ -1,21 +1,26 @@
 -- What the outcome of a command and its telling promise of the whole run.
-use Rattle.std.proofs.Common.{◌≡◌, ℕ, true, false, List, [], ◌∷◌, ◌++◌, map, Option, Some, None, Result, Ok, Err, refl, sym, ap, subst, ◌∙◌, append_assoc, inl, inr}
+use Rattle.std.proofs.Common.{◌≡◌, ℕ, true, false, List, [], ◌∷◌, ◌++◌, Option, Some, None, Result, Ok, Err, refl, sym, ap, subst, ◌∙◌, append_assoc, inl, inr}
 use Rattle.std.specs.Prelude.{Bool, if◌then◌else◌}
+use Rattle.std.specs.List.{list_any}
 use Rattle.rely_num.specs.Texts.{Bytes}
-use Rattle.rely_hard.specs.declared.hardware.Hardware.{Hardware}
-use Rattle.rely_kernel.specs.declared.kernel.Kernel.{Kernel}
+use Rattle.rely_precond.specs.declared.fault.PreFault.{PreFault}
 use Rattle.chisel_outside.specs.Outside.{Log}
 use Rattle.chisel_top.specs.declared.fault.Fault.TheVariants as fault
 use Rattle.chisel_top.specs.declared.fault.Written.{Written}
 use Rattle.chisel_top.specs.declared.fault.Fault.{Fault}
+use Rattle.chisel_top.specs.declared.printed.Printed.{Printed}
+use Rattle.chisel_top.specs.declared.ready.Ready.{Ready}
 use Rattle.chisel_top.specs.declared.status.Status.{Status}
 use Rattle.chisel_top.specs.declared.status.Status.TheVariants as status
-use Rattle.chisel_top.specs.Findings.{Files, Finding, NoForm, Unread, TooLong, NotYet, Unfit, Judged, finding, status_of, status_on, verdict_on, read_line, memory_line}
-use Rattle.chisel_top.specs.Promises.{Tells, Wrote, WroteFront, Counts, FailedLast, FetchesInOrder, IsCause, IsOwed, EndsWithoutForm, IsReport, is_marked, outcome_text, outcome_status}
+use Rattle.chisel_top.specs.Answer.{IsAnswer, printed_status}
+use Rattle.chisel_top.specs.Findings.{Files, Finding, NoForm, Unread, TooLong, Refused, Judging, Running, finding}
+use Rattle.chisel_top.specs.Lines.{read_line, memory_line}
+use Rattle.chisel_top.specs.Promises.{Tells, Wrote, WroteFront, Counts, FailedLast, FetchesInOrder, IsCause, IsOwed, EndsWithoutForm, IsReport, JudgedAs, is_marked, outcome_text, outcome_status}
 use Rattle.chisel_top.specs.Statuses.{IsFree}
 use Rattle.chisel_top.specs.Steps.{Agrees, IsAsked, IsForm, IsGrade, Marks, Fetching}
 use Rattle.chisel_top.specs.Telling.{Delivers}
-use Rattle.chisel_top.specs.Words.{Verify, form, files_of}
+use Rattle.chisel_top.specs.Verdicts.{judged, status_on, is_refused, is_undecided}
+use Rattle.chisel_top.specs.Words.{Command, form, files_of}
 
 -- ---- statuses
 
@@ -45,7 +50,7 @@ asked_end : (o : Result Written Fault) → IsAsked o → IsEnd o
 asked_end (Ok w) h = h
 asked_end (Err f) h = tt
 
-form_end : (v : Option Verify) (o : Result Written Fault) → IsForm v o → IsEnd o
+form_end : (v : Option Command) (o : Result Written Fault) → IsForm v o → IsEnd o
 form_end None o h = subst IsEnd (sym h) tt
 form_end (Some v) o h = asked_end o h
 
@@ -54,9 +59,10 @@ not_written : (o : Result Written Fault) → IsEnd o → outcome_status o ≡ st
 not_written (Ok w) h e = ungraded w.status status.WriteFault (λ g. g) h e
 not_written (Err fault.Words) h e = cc
 not_written (Err (fault.Read name)) h e = cc
-not_written (Err (fault.Length name)) h e = cc
-not_written (Err fault.NotYet) h e = cc
-not_written (Err (fault.Hardware f)) h e = cc
+not_written (Err (fault.Length name limit)) h e = cc
+not_written (Err (fault.Refused r)) h e = cc
+not_written (Err (fault.Walk f)) h e = cc
+not_written (Err fault.Steps) h e = cc
 not_written (Err fault.Memory) h e = cc
 
 -- asked words are no fault
@@ -64,12 +70,13 @@ not_words : (o : Result Written Fault) → IsAsked o → outcome_status o ≡ st
 not_words (Ok w) h e = ungraded w.status status.Words (λ g. g) h e
 not_words (Err fault.Words) h e = h
 not_words (Err (fault.Read name)) h e = cc
-not_words (Err (fault.Length name)) h e = cc
-not_words (Err fault.NotYet) h e = cc
-not_words (Err (fault.Hardware f)) h e = cc
+not_words (Err (fault.Length name limit)) h e = cc
+not_words (Err (fault.Refused r)) h e = cc
+not_words (Err (fault.Walk f)) h e = cc
+not_words (Err fault.Steps) h e = cc
 not_words (Err fault.Memory) h e = cc
 
-without_form : (v : Option Verify) (o : Result Written Fault) → IsForm v o → outcome_status o ≡ status.Words → v ≡ None
+without_form : (v : Option Command) (o : Result Written Fault) → IsForm v o → outcome_status o ≡ status.Words → v ≡ None
 without_form None o h e = refl
 without_form (Some v) o h e = absurd (not_words o h e)
 
@@ -83,18 +90,20 @@ read_failed : (o : Result Written Fault) (old new pairs : Log) → IsEnd o → n
 read_failed (Ok w) old new pairs h grew m e = absurd (ungraded w.status status.ReadFault (λ g. g) h e)
 read_failed (Err fault.Words) old new pairs h grew m e = absurd (cc)
 read_failed (Err (fault.Read name)) old new pairs h grew m e = (name.now, failed_last old new pairs m.0 name.now grew m.1, refl)
-read_failed (Err (fault.Length name)) old new pairs h grew m e = absurd (cc)
-read_failed (Err fault.NotYet) old new pairs h grew m e = absurd (cc)
-read_failed (Err (fault.Hardware f)) old new pairs h grew m e = absurd (cc)
+read_failed (Err (fault.Length name limit)) old new pairs h grew m e = absurd (cc)
+read_failed (Err (fault.Refused r)) old new pairs h grew m e = absurd (cc)
+read_failed (Err (fault.Walk f)) old new pairs h grew m e = absurd (cc)
+read_failed (Err fault.Steps) old new pairs h grew m e = absurd (cc)
 read_failed (Err fault.Memory) old new pairs h grew m e = absurd (cc)
 
 memory_text : (o : Result Written Fault) → IsEnd o → outcome_status o ≡ status.Memory → outcome_text o ≡ memory_line
 memory_text (Ok w) h e = absurd (ungraded w.status status.Memory (λ g. g) h e)
 memory_text (Err fault.Words) h e = absurd (cc)
 memory_text (Err (fault.Read name)) h e = absurd (cc)
-memory_text (Err (fault.Length name)) h e = absurd (cc)
-memory_text (Err fault.NotYet) h e = absurd (cc)
-memory_text (Err (fault.Hardware f)) h e = absurd (cc)
+memory_text (Err (fault.Length name limit)) h e = absurd (cc)
+memory_text (Err (fault.Refused r)) h e = absurd (cc)
+memory_text (Err (fault.Walk f)) h e = absurd (cc)
+memory_text (Err fault.Steps) h e = absurd (cc)
 memory_text (Err fault.Memory) h e = refl
 
 -- a marked pair is a failed read
@@ -102,73 +111,71 @@ marked_read : (o : Result Written Fault) (pairs : Log) → Marks pairs o → is_
 marked_read (Ok w) pairs m e = absurd (cc)
 marked_read (Err fault.Words) pairs m e = absurd (cc)
 marked_read (Err (fault.Read name)) pairs m e = refl
-marked_read (Err (fault.Length name)) pairs m e = absurd (cc)
-marked_read (Err fault.NotYet) pairs m e = absurd (cc)
-marked_read (Err (fault.Hardware f)) pairs m e = absurd (cc)
+marked_read (Err (fault.Length name limit)) pairs m e = absurd (cc)
+marked_read (Err (fault.Refused r)) pairs m e = absurd (cc)
+marked_read (Err (fault.Walk f)) pairs m e = absurd (cc)
+marked_read (Err fault.Steps) pairs m e = absurd (cc)
 marked_read (Err fault.Memory) pairs m e = absurd (cc)
 
 -- what was to be written
 owed : (words : List Bytes) (held : Bytes → Option (Option Bytes)) (o : Result Written Fault) (old new pairs : Log) → IsEnd o → new ≡ old ++ pairs → Marks pairs o
     → ((files : Files) → Tells held files → Agrees o (finding words files)) → IsOwed words held old new (outcome_text o)
-owed words held (Ok w) old new pairs h grew m a = inr (inr (λ files tells. ((a files tells).agrees (grade_free w.status h)).0))
-owed words held (Err fault.Words) old new pairs h grew m a = inr (inr (λ files tells. ((a files tells).agrees (λ f. f)).0))
+owed words held (Ok w) old new pairs h grew m a = inr (inr (λ files tells. (w.status, (a files tells).agrees (grade_free w.status h))))
+owed words held (Err fault.Words) old new pairs h grew m a = inr (inr (λ files tells. (_, (a files tells).agrees (λ f. f))))
 owed words held (Err (fault.Read name)) old new pairs h grew m a = inr (inl (name.now, failed_last old new pairs m.0 name.now grew m.1, refl))
-owed words held (Err (fault.Length name)) old new pairs h grew m a = inr (inr (λ files tells. ((a files tells).agrees (λ f. f)).0))
-owed words held (Err fault.NotYet) old new pairs h grew m a = inr (inr (λ files tells. ((a files tells).agrees (λ f. f)).0))
-owed words held (Err (fault.Hardware f)) old new pairs h grew m a = inr (inr (λ files tells. ((a files tells).agrees (λ f. f)).0))
+owed words held (Err (fault.Length name limit)) old new pairs h grew m a = inr (inr (λ files tells. (_, (a files tells).agrees (λ f. f))))
+owed words held (Err (fault.Refused r)) old new pairs h grew m a = inr (inr (λ files tells. (_, (a files tells).agrees (λ f. f))))
+owed words held (Err (fault.Walk f)) old new pairs h grew m a = inr (inr (λ files tells. (_, (a files tells).agrees (λ f. f))))
+owed words held (Err fault.Steps) old new pairs h grew m a = inr (inr (λ files tells. (_, (a files tells).agrees (λ f. f))))
 owed words held (Err fault.Memory) old new pairs h grew m a = inl refl
 
 -- ---- causes
 
--- a grade comes of a judged kernel
-graded_cause : (f : Finding) (s : Status) → IsGrade s → s ≡ status_of f → (h : Hardware) × (k : Kernel) × (f ≡ Judged h k) × (status_on (map (verdict_on h k) k.claims) ≡ s)
-graded_cause NoForm s g e = absurd (ungraded s status.Words (λ t. t) g e)
-graded_cause (Unread name) s g e = absurd (ungraded s status.ReadFault (λ t. t) g e)
-graded_cause (TooLong name) s g e = absurd (ungraded s status.Limit (λ t. t) g e)
-graded_cause NotYet s g e = absurd (ungraded s status.Text (λ t. t) g e)
-graded_cause (Unfit fault) s g e = absurd (ungraded s status.Text (λ t. t) g e)
-graded_cause (Judged h k) s g e = (h, k, refl, sym e)
-
--- the status of several verdicts is a grade
+-- verdicts give a grade
 grade_on : (a b : Bool) → IsGrade (if a then status.Refused else (if b then status.Undecided else status.Done))
 grade_on true b = tt
 grade_on false true = tt
 grade_on false false = tt
 
-words_cause : (f : Finding) → status.Words ≡ status_of f → f ≡ NoForm
-words_cause NoForm e = refl
-words_cause (Unread name) e = absurd (cc)
-words_cause (TooLong name) e = absurd (cc)
-words_cause NotYet e = absurd (cc)
-words_cause (Unfit fault) e = absurd (cc)
-words_cause (Judged h k) e = absurd (ungraded (status_of (Judged h k)) status.Words (λ t. t) (grade_on _ _) (sym e))
+-- a grade comes of verdicts
+graded_cause : (f : Finding) (s : Status) → IsGrade s → JudgedAs s f → IsCause f s
+graded_cause f status.Done g j = inl j
+graded_cause f status.Refused g j = j
+graded_cause f status.Undecided g j = j
+graded_cause f status.Words g j = absurd g
+graded_cause f status.Text g j = absurd g
+graded_cause f status.Limit g j = absurd g
+graded_cause f status.ReadFault g j = absurd g
+graded_cause f status.WriteFault g j = absurd g
+graded_cause f status.Memory g j = absurd g
 
-text_cause : (f : Finding) → status.Text ≡ status_of f → IsCause f status.Text
-text_cause NoForm e = absurd (cc)
-text_cause (Unread name) e = absurd (cc)
-text_cause (TooLong name) e = absurd (cc)
-text_cause NotYet e = inl refl
-text_cause (Unfit fault) e = inr (fault, refl)
-text_cause (Judged h k) e = absurd (ungraded (status_of (Judged h k)) status.Text (λ t. t) (grade_on _ _) (sym e))
+judged_cause : (r : Ready) (wanted : Bool) (x : Result Printed PreFault) → judged r wanted ≡ x → IsCause (Judging r wanted) (printed_status x)
+judged_cause r wanted (Ok p) e =
+    graded_cause (Judging r wanted) (status_on p.verdicts) (grade_on (list_any is_refused p.verdicts) (list_any is_undecided p.verdicts)) (r, wanted, p, refl, e, refl)
+judged_cause r wanted (Err limit) e = inr (inl (r, wanted, limit, refl, e))
 
-limit_cause : (f : Finding) → status.Limit ≡ status_of f → IsCause f status.Limit
-limit_cause NoForm e = absurd (cc)
-limit_cause (Unread name) e = absurd (cc)
-limit_cause (TooLong name) e = (name, refl)
-limit_cause NotYet e = absurd (cc)
-limit_cause (Unfit fault) e = absurd (cc)
-limit_cause (Judged h k) e = absurd (ungraded (status_of (Judged h k)) status.Limit (λ t. t) (grade_on _ _) (sym e))
+cause : (f : Finding) (text : Bytes) (s : Status) → IsAnswer f text s → IsCause f s
+cause NoForm text s a = subst (λ t. IsCause NoForm t) (sym a.1) refl
+cause (Unread name) text s a = subst (λ t. IsCause (Unread name) t) (sym a.1) tt
+cause (TooLong name limit) text s a = subst (λ t. IsCause (TooLong name limit) t) (sym a.1) (inl (name, limit, refl))
+cause (Refused r) text s a = subst (λ t. IsCause (Refused r) t) (sym a.1) (r, refl)
+cause (Judging r wanted) text s a = subst (λ t. IsCause (Judging r wanted) t) (sym a.1) (judged_cause r wanted (judged r wanted) refl)
+cause (Running r starts) text s a = elim a [
+  | inl told ↦ subst (λ t. IsCause (Running r starts) t) (sym told.1) (inr (r, starts, text, refl, told.0))
+  | inr past ↦ subst (λ t. IsCause (Running r starts) t) (sym past.1.1) (inr (inr (r, starts, refl, past.0)))
+]
 
-cause : (f : Finding) (s : Status) → ((IsFree s → ⊥) → s ≡ status_of f) → IsCause f s
-cause f status.Done e = graded_cause f status.Done tt (e (λ t. t))
-cause f status.Refused e = graded_cause f status.Refused tt (e (λ t. t))
-cause f status.Undecided e = graded_cause f status.Undecided tt (e (λ t. t))
-cause f status.Words e = words_cause f (e (λ t. t))
-cause f status.Text e = text_cause f (e (λ t. t))
-cause f status.Limit e = limit_cause f (e (λ t. t))
-cause f status.ReadFault e = tt
-cause f status.WriteFault e = tt
-cause f status.Memory e = tt
+-- a status that a device or memory gives has no cause in the files
+free_cause : (f : Finding) (s : Status) → ((IsFree s → ⊥) → IsCause f s) → IsCause f s
+free_cause f status.Done e = e (λ t. t)
+free_cause f status.Refused e = e (λ t. t)
+free_cause f status.Undecided e = e (λ t. t)
+free_cause f status.Words e = e (λ t. t)
+free_cause f status.Text e = e (λ t. t)
+free_cause f status.Limit e = e (λ t. t)
+free_cause f status.ReadFault e = tt
+free_cause f status.WriteFault e = tt
+free_cause f status.Memory e = tt
 
 counts_same : (s : Status) (before after : ℕ) → (s ≡ status.WriteFault → ⊥) → after ≡ before → Counts before after s
 counts_same status.Done before after other e = e
@@ -235,8 +242,9 @@ module _ (words : List Bytes) (held : Bytes → Option (Option Bytes)) (old new 
   pub run_report : (files : Files) → Tells held files → (IsFree result → ⊥) → IsReport (finding words files) w w' result
   run_report files tells free =
       let all = whole (λ f. free (subst IsFree (sym f) tt)) in
-      let same = (agrees files tells).agrees (λ f. free (subst IsFree (sym all.0) f)) in
-      record { status = all.0 ∙ same.1; text = subst (λ t. Wrote w w' t) same.0 all.1 }
+      let answer = (agrees files tells).agrees (λ f. free (subst IsFree (sym all.0) f)) in
+      record { text = outcome_text o; answer = subst (λ s. IsAnswer (finding words files) (outcome_text o) s) (sym all.0) answer; wrote = all.1 }
 
   pub run_causes : (files : Files) → Tells held files → IsCause (finding words files) result
-  run_causes files tells = cause (finding words files) result (λ free. (run_report files tells free).status)
+  run_causes files tells =
+      free_cause (finding words files) result (λ free. let r = run_report files tells free in cause (finding words files) r.text result r.answer)

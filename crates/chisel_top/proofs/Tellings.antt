@@ -11,7 +11,9 @@ use Rattle.chisel_outside.specs.declared.sink.Put.{Put}
 use Rattle.chisel_outside.specs.declared.sink.Put.TheVariants.{All, Failed}
 use Rattle.chisel_top.specs.declared.status.Status.{Status}
 use Rattle.chisel_top.specs.declared.status.Status.TheVariants as status
-use Rattle.chisel_top.specs.Findings.{why_text, key_text, hard_line}
+use Rattle.rely_inputs.specs.declared.fault.InputFault.TheVariants.{At as Refused}
+use Rattle.rely_inputs.specs.declared.fault.InputWhy.{InputWhy}
+use Rattle.chisel_top.specs.Lines.{why_text, key_text, hard_line, lack_text, input_line}
 use Rattle.chisel_top.specs.Promises.{Wrote}
 use Rattle.chisel_top.specs.Telling.{joined, Delivers}
 
@@ -72,3 +74,18 @@ pub refusal_is : (w k o i : Bytes) (why : HardWhy) (key : Key) (outer inner : �
     → codes "fault hardware " ++ (w ++ (codes " " ++ (k ++ (codes " " ++ (o ++ (codes " " ++ (i ++ (codes "\n" ++ [])))))))) ≡ hard_line (At why key outer inner)
 refusal_is w k o i why key outer inner a b c d =
     rw (a, b, c, d) (nine (codes "fault hardware ") (why_text why) (codes " ") (key_text key) (codes " ") (decimal outer) (codes " ") (decimal inner) (codes "\n"))
+
+-- the line of a sample, put in seven pieces
+seven : (a b c d e f g : Bytes) → a ++ (b ++ (c ++ (d ++ (e ++ (f ++ (g ++ [])))))) ≡ a ++ b ++ c ++ d ++ e ++ f ++ g
+seven a b c d e f g = simp (append_assoc, append-nil)
+
+pub sample_is : (w s v : Bytes) (why : InputWhy) (sample var : ℕ) → w ≡ lack_text why → s ≡ decimal sample → v ≡ decimal var
+    → codes "fault inputs " ++ (w ++ (codes " " ++ (s ++ (codes " " ++ (v ++ (codes "\n" ++ [])))))) ≡ input_line (Refused why sample var)
+sample_is w s v why sample var a b c = rw (a, b, c) (seven (codes "fault inputs ") (lack_text why) (codes " ") (decimal sample) (codes " ") (decimal var) (codes "\n"))
+
+-- and one that ends with a number, in five
+five : (a b c d e : Bytes) → a ++ (b ++ (c ++ (d ++ (e ++ [])))) ≡ a ++ b ++ c ++ d ++ e
+five a b c d e = simp (append_assoc, append-nil)
+
+pub number_is : (before word n : Bytes) (number : ℕ) → n ≡ decimal number → before ++ (word ++ (codes " " ++ (n ++ (codes "\n" ++ [])))) ≡ before ++ word ++ codes " " ++ decimal number ++ codes "\n"
+number_is before word n number e = rw e (five before word (codes " ") (decimal number) (codes "\n"))

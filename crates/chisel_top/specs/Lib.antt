@@ -1,9 +1,11 @@
+pub mod Answer
 pub mod Asked
 pub mod Findings
-pub mod FirstKernel
-pub mod FirstSource
+pub mod Lines
 pub mod Promises
+pub mod Simulations
 pub mod Statuses
 pub mod Steps
 pub mod Telling
+pub mod Verdicts
 pub mod Words

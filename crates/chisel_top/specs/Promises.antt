@@ -1,26 +1,34 @@
 -- What the top call promises: of the log, of the sink, of the status and of accepted claims.
-use Rattle.std.specs.Prelude.{ℕ, ◌≡◌, Bool, true, false, List, [], ◌∷◌, ◌++◌, map, Option, Some, option_map, Result, Ok, Err, ◌⊎◌, Contains}
+use Rattle.std.specs.Prelude.{ℕ, ◌≡◌, Bool, true, false, List, [], ◌∷◌, ◌++◌, Option, Some, option_map, slice_get, Result, Ok, Err, ◌⊎◌, Contains}
 use Rattle.std.specs.List.{list_any}
 use Rattle.rely_num.specs.Texts.{Bytes}
 use Rattle.chisel_outside.specs.Outside.{Log, Rose}
-use Rattle.rely_hard.specs.declared.fault.HardFault.{HardFault}
-use Rattle.rely_hard.specs.declared.hardware.Hardware.{Hardware}
 use Rattle.rely_kernel.specs.declared.kernel.Claim.{Claim}
 use Rattle.rely_kernel.specs.declared.kernel.Kernel.{Kernel}
-use Rattle.rely_kernel.specs.declared.kernel.Linked.{Linked}
+use Rattle.rely_kernel.specs.declared.setting.Store.{Store}
 use Rattle.rely_kernel.specs.Bound.{BoundHolds}
 use Rattle.rely_kernel.specs.Machine.{functions, main}
 use Rattle.rely_kernel.specs.Paths.{paths_of}
 use Rattle.rely_kernel.specs.Rates.{rate, rates, own, settings}
+use Rattle.rely_kernel.specs.Valid.{claim_in_use}
+use Rattle.rely_precond.specs.declared.fault.PreFault.{PreFault}
 use Rattle.rely_predicate.specs.Top.{top}
 use Rattle.rely_verdict.specs.Judged.{IsNear}
 use Rattle.rely_verdict.specs.declared.verdict.Verdict.TheVariants.{Accepted}
 use Rattle.chisel_top.specs.declared.fault.Fault.{Fault}
 use Rattle.chisel_top.specs.declared.fault.Fault.TheVariants as fault
+use Rattle.chisel_top.specs.declared.ready.Ready.{Ready}
+use Rattle.chisel_top.specs.declared.fault.Refusal.{Refusal}
 use Rattle.chisel_top.specs.declared.fault.Written.{Written}
 use Rattle.chisel_top.specs.declared.status.Status.{Status}
 use Rattle.chisel_top.specs.declared.status.Status.TheVariants as status
-use Rattle.chisel_top.specs.Findings.{Files, Finding, NoForm, TooLong, NotYet, Unfit, Judged, finding, text_of, status_of, status_on, verdict_on, words_line, read_line, length_line, notyet_line, hard_line, memory_line}
+use Rattle.chisel_top.specs.Answer.{IsAnswer}
+use Rattle.chisel_top.specs.Findings.{Files, Finding, NoForm, TooLong, Refused, Judging, Running, finding}
+use Rattle.chisel_top.specs.Lines.{words_line, read_line, length_line, memory_line, refusal_line, walk_line, steps_line}
+use Rattle.chisel_top.specs.Simulations.{RunsTell, RunsPass}
+use Rattle.chisel_top.specs.Verdicts.{callees_after, judged, status_on, verdict_on}
+use Rattle.chisel_top.specs.declared.printed.Callees.TheVariants.{AllAccepted}
+use Rattle.chisel_top.specs.declared.printed.Printed.{Printed}
 use Rattle.chisel_top.specs.Words.{form, files_of}
 
 -- ---- the outside
@@ -68,20 +76,40 @@ pub record FetchesInOrder (words : List Bytes) (old new : Log) (result : Status)
 
 -- ---- the status
 
+-- the verdicts that are printed give that status
+abbrev pub JudgedAs : Status → Finding → Type 0
+JudgedAs s f = (r : Ready) × (wanted : Bool) × (p : Printed) × (f ≡ Judging r wanted) × (judged r wanted ≡ Ok p) × (status_on p.verdicts ≡ s)
+
+-- the samples are run, within the limit on steps
+abbrev pub IsRunToEnd : Finding → Type 0
+IsRunToEnd f = (r : Ready) × (starts : List Store) × (text : Bytes) × (f ≡ Running r starts) × RunsTell r starts text
+
+-- the files are refused
+abbrev pub IsRefused : Finding → Type 0
+IsRefused f = (r : Refusal) × (f ≡ Refused r)
+
+-- a file is too long, a walk reaches a limit, or the runs take too many steps
+abbrev pub IsPastLimit : Finding → Type 0
+IsPastLimit f =
+    ((name : Bytes) × (limit : ℕ) × (f ≡ TooLong name limit))
+    ⊎ (((r : Ready) × (wanted : Bool) × (limit : PreFault) × (f ≡ Judging r wanted) × (judged r wanted ≡ Err limit))
+    ⊎ ((r : Ready) × (starts : List Store) × (f ≡ Running r starts) × RunsPass r.linked starts))
+
 -- what is found gives the status
 abbrev pub IsCause : Finding → Status → Type 0
-IsCause f status.Done = (h : Hardware) × (k : Kernel) × (f ≡ Judged h k) × (status_on (map (verdict_on h k) k.claims) ≡ status.Done)
-IsCause f status.Refused = (h : Hardware) × (k : Kernel) × (f ≡ Judged h k) × (status_on (map (verdict_on h k) k.claims) ≡ status.Refused)
-IsCause f status.Undecided = (h : Hardware) × (k : Kernel) × (f ≡ Judged h k) × (status_on (map (verdict_on h k) k.claims) ≡ status.Undecided)
+IsCause f status.Done = JudgedAs status.Done f ⊎ IsRunToEnd f
+IsCause f status.Refused = JudgedAs status.Refused f
+IsCause f status.Undecided = JudgedAs status.Undecided f
 IsCause f status.Words = f ≡ NoForm
-IsCause f status.Text = (f ≡ NotYet) ⊎ ((fault : HardFault) × (f ≡ Unfit fault))
-IsCause f status.Limit = (name : Bytes) × (f ≡ TooLong name)
+IsCause f status.Text = IsRefused f
+IsCause f status.Limit = IsPastLimit f
 IsCause f _ = Unit {0}
 
--- the status and the text are those of what is found
+-- the status and the text answer what is found
 pub record IsReport (f : Finding) (old new : Option Bytes) (result : Status) : Type 0 where
-  pub status : result ≡ status_of f
-  pub text : Wrote old new (text_of f)
+  pub text : Bytes
+  pub answer : IsAnswer f text result
+  pub wrote : Wrote old new text
 
 -- words of no form end so
 abbrev pub EndsWithoutForm : Option Bytes → Option Bytes → Status → Type 0
@@ -90,24 +118,27 @@ EndsWithoutForm old new result = ((result ≡ status.Words) × Wrote old new wor
 -- the text that a failed put cut off: that of memory, of a failed fetch, or of what is found
 abbrev pub IsOwed : List Bytes → (Bytes → Option (Option Bytes)) → Log → Log → Bytes → Type 0
 IsOwed words held old new text =
-    (text ≡ memory_line) ⊎ (((name : Bytes) × FailedLast old new name × (text ≡ read_line name)) ⊎ ((files : Files) → Tells held files → text ≡ text_of (finding words files)))
+    (text ≡ memory_line)
+    ⊎ (((name : Bytes) × FailedLast old new name × (text ≡ read_line name)) ⊎ ((files : Files) → Tells held files → (s : Status) × IsAnswer (finding words files) text s))
 
 -- ---- what a command that writes in the end has to write
 
 abbrev pub fault_text : Fault → Bytes
 fault_text fault.Words = words_line
 fault_text (fault.Read word) = read_line word.now
-fault_text (fault.Length word) = length_line word.now
-fault_text fault.NotYet = notyet_line
-fault_text (fault.Hardware f) = hard_line f
+fault_text (fault.Length word limit) = length_line word.now limit
+fault_text (fault.Refused r) = refusal_line r
+fault_text (fault.Walk f) = walk_line f
+fault_text fault.Steps = steps_line
 fault_text fault.Memory = memory_line
 
 abbrev pub fault_status : Fault → Status
 fault_status fault.Words = status.Words
 fault_status (fault.Read word) = status.ReadFault
-fault_status (fault.Length word) = status.Limit
-fault_status fault.NotYet = status.Text
-fault_status (fault.Hardware f) = status.Text
+fault_status (fault.Length word limit) = status.Limit
+fault_status (fault.Refused r) = status.Text
+fault_status (fault.Walk f) = status.Limit
+fault_status fault.Steps = status.Limit
 fault_status fault.Memory = status.Memory
 
 abbrev pub outcome_text : Result Written Fault → Bytes
@@ -120,21 +151,30 @@ outcome_status (Err f) = fault_status f
 
 -- ---- accepted claims
 
--- the kernel alone, which calls no other
-abbrev pub alone : Kernel → Linked
-alone k = record { kernel = k; inner = [] }
-
--- a fact of the kernel that is judged, and of its hardware
-abbrev pub OnJudged : (Hardware → Kernel → Type 0) → Finding → Type 0
-OnJudged P (Judged h k) = P h k
+-- a fact of the kernels that are judged
+abbrev pub OnJudged : (Ready → Type 0) → Finding → Type 0
+OnJudged P (Judging r wanted) = P r
 OnJudged P _ = Unit {0}
 
--- in every forest of runs of the kernel on this hardware the bound of each accepted claim holds
-abbrev pub AcceptedHold : Hardware → Kernel → Type 0
-AcceptedHold h k =
-    (c : Claim) (lo : ℕ) → Contains k.claims c → verdict_on h k c ≡ Accepted lo
-    → BoundHolds (functions (alone k)) (rate h (functions (alone k)) (settings (alone k) (own k))) k (main (alone k)) c
+-- in every forest of runs of the function with that number on this hardware, the claim's bound holds, each function under
+-- its own kinds and memories
+abbrev pub Holds : Ready → ℕ → Kernel → Claim → Type 0
+Holds r f k c = let fs = functions r.linked in BoundHolds fs (rate r.hardware fs (settings r.linked (own r.linked.kernel))) k f c
 
--- the bound of each undecided claim lies between two products that are near each other
-abbrev pub UndecidedNear : Hardware → Kernel → Type 0
-UndecidedNear h k = (c : Claim) → Contains k.claims c → IsNear (rates h k (own k)) c.bound (top (paths_of k c.target)) (verdict_on h k c)
+-- each accepted line that is printed: where the claims in use of all reached functions are accepted, they hold, and so
+-- does each claim of the function that is accepted
+pub record AcceptedHold (r : Ready) : Type 0 where
+  pub function : (lines : Bytes) → callees_after r.text r.hardware [] r.linked.inner ≡ Ok (AllAccepted lines)
+      → (c : Claim) (lo : ℕ) → Contains r.linked.kernel.claims c → verdict_on r.hardware r.linked.kernel c ≡ Accepted lo
+      → Holds r (main r.linked) r.linked.kernel c
+  pub callees : (lines : Bytes) → callees_after r.text r.hardware [] r.linked.inner ≡ Ok (AllAccepted lines)
+      → (f : ℕ) (k : Kernel) (c : Claim) → slice_get r.linked.inner f ≡ Some k → claim_in_use k ≡ Some c → Holds r f k c
+
+-- the bound of a claim that is undecided lies between two products that are near each other
+abbrev pub Near : Ready → Kernel → Claim → Type 0
+Near r k c = IsNear (rates r.hardware k (own k)) c.bound (top (paths_of k c.target)) (verdict_on r.hardware k c)
+
+-- so it is with each claim of the function, and with the claim in use of each reached one
+pub record UndecidedNear (r : Ready) : Type 0 where
+  pub function : (c : Claim) → Contains r.linked.kernel.claims c → Near r r.linked.kernel c
+  pub callees : (f : ℕ) (k : Kernel) (c : Claim) → slice_get r.linked.inner f ≡ Some k → claim_in_use k ≡ Some c → Near r k c

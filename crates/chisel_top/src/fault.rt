@@ -2,20 +2,39 @@
 
 use crate::Status;
 use rely_hard::HardFault;
+use rely_inputs::InputFault;
+use rely_lexer::LexFault;
 use rely_num::List;
-use std::alloc::AllocError;
+use rely_parser::ParseFault;
+use rely_precond::PreFault;
+use rely_resolve::NameFault;
+use std::alloc::{AllocError, AllocFailed};
+
+/// Why the files are refused.
+#[derive(Clone, Copy, Debug)]
+pub(crate) enum Refusal {
+    Lex(LexFault),
+    Parse(ParseFault),
+    Hardware(HardFault),
+    Name(NameFault),
+    /// The place of a kind or a memory that is left open.
+    Mark(u32),
+    Inputs(InputFault),
+}
 
 /// Why a command has no answer.
-#[derive(Debug, Drop)]
+#[derive(Clone, Copy, Debug)]
 pub(crate) enum Fault<'w> {
     Words,
     /// The fetch of the file of that name failed.
     Read(&'w str),
-    /// The file of that name is longer than its limit.
-    Length(&'w str),
-    /// The source isn't one that the first path reads.
-    NotYet,
-    Hardware(HardFault),
+    /// The file of that name is longer than its limit, in bytes.
+    Length(&'w str, u32),
+    Refused(Refusal),
+    /// A limit of the walk through a claim's function.
+    Walk(PreFault),
+    /// The runs take too many steps together.
+    Steps,
     Memory,
 }
 
@@ -26,6 +45,17 @@ impl From<AllocError> for Fault<'_> {
     ghost from_gives = { λ _ e. e ≡ Memory };
 
     fn from(_e: AllocError) -> Self {
+        Fault::Memory
+    }
+}
+
+impl<T: Drop> From<AllocFailed<T>> for Fault<'_> {
+    ghost use Rattle.std.specs.Prelude.{◌≡◌};
+    ghost use Rattle.chisel_top.specs.declared.fault.Fault.TheVariants.{Memory};
+
+    ghost from_gives = { λ _ e. e ≡ Memory };
+
+    fn from(_e: AllocFailed<T>) -> Self {
         Fault::Memory
     }
 }

@@ -1,10 +1,9 @@
 //! The printed line of a claim.
 
-ghost use Rattle.std.specs.Prelude.{◌≡◌, ◌∷◌, [], IfOk};
+ghost use Rattle.std.specs.Prelude.{◌≡◌, IfOk};
 ghost use Rattle.rely_num.specs.AttoTexts.{atto_text};
-ghost use Rattle.chisel_top.specs.Findings.{variable_name, said, line_on, status_on};
+ghost use Rattle.chisel_top.specs.Verdicts.{variable_name, said, line_on};
 
-use crate::Status;
 use itoa::Buffer;
 use rely_kernel::{Claim, Kernel};
 use rely_num::Atto;
@@ -78,15 +77,4 @@ pub(crate) fn line(
     text.extend_from_slice(&printed(claim.bound))?;
     text.extend_from_slice(b"\n")?;
     Ok(text)
-}
-
-/// The status of a function with this one claim.
-pub(crate) fn status(verdict: &Verdict) -> Status
-    ensures { result ≡ status_on (verdict.now ∷ []) }
-{
-    match verdict {
-        Verdict::Needs { .. } | Verdict::Below { .. } => Status::Refused,
-        Verdict::Undecided { .. } => Status::Undecided,
-        Verdict::Accepted { .. } => Status::Done,
-    }
 }

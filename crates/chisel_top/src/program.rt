@@ -2,16 +2,19 @@
 
 ghost use Rattle.std.specs.Prelude.{◌≡◌, ◌⊎◌, List, ℕ, None, false};
 ghost use Rattle.rely_num.specs.Texts.{Bytes};
-ghost use Rattle.chisel_top.specs.Findings.{Files, finding, memory_line, read_line};
+ghost use Rattle.chisel_top.specs.Findings.{Files, finding};
+ghost use Rattle.chisel_top.specs.Lines.{memory_line, read_line};
 ghost use Rattle.chisel_top.specs.Promises.{AcceptedHold, Counts, EndsWithoutForm, FailedLast, FetchesInOrder, IsCause, IsOwed, IsReport, OnJudged, Tells, UndecidedNear, Wrote, WroteFront};
 ghost use Rattle.chisel_top.specs.Statuses.{IsFree};
 ghost use Rattle.chisel_top.specs.Steps.{Agrees, Fetching, IsForm};
 ghost use Rattle.chisel_top.specs.Words.{files_of, form};
 
+use crate::Status;
 use crate::fault::{Fault, Written};
+use crate::simulate::simulate;
 use crate::tell::tell;
 use crate::verify::verify;
-use crate::{Status, words};
+use crate::words::{self, Asked};
 use chisel_outside::{Arg, Shelf, Sink};
 use std::alloc::Global;
 
@@ -28,7 +31,8 @@ fn outcome<'w, F: Shelf>(
 {
     match words::read(words) {
         None => Err(Fault::Words),
-        Some(asked) => verify(alloc, asked, shelf),
+        Some(Asked::Verify(words)) => verify(alloc, words, shelf),
+        Some(Asked::Run(words)) => simulate(alloc, words, shelf),
     }
 }
 

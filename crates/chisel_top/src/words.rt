@@ -1,7 +1,7 @@
 //! The words of a command line.
 
-ghost use Rattle.std.specs.Prelude.{◌≡◌, option_map};
-ghost use Rattle.chisel_top.specs.Words.{form, is_plain};
+ghost use Rattle.std.specs.Prelude.{◌≡◌, option_map, map};
+ghost use Rattle.chisel_top.specs.Words.{form, verify_form, run_form, callees_of, is_plain};
 ghost use Rattle.chisel_top.specs.Asked.{asked_by};
 
 use chisel_outside::Arg;
@@ -12,6 +12,24 @@ pub(crate) struct VerifyWords<'w> {
     pub(crate) source: &'w str,
     pub(crate) hardware: &'w str,
     pub(crate) function: &'w str,
+    /// Whether the lines of the functions that are called are wanted.
+    pub(crate) callees: bool,
+}
+
+/// What `run` is asked.
+#[derive(Clone, Copy, Debug)]
+pub(crate) struct RunWords<'w> {
+    pub(crate) source: &'w str,
+    pub(crate) hardware: &'w str,
+    pub(crate) inputs: &'w str,
+    pub(crate) function: &'w str,
+}
+
+/// A command with its words.
+#[derive(Clone, Copy, Debug)]
+pub(crate) enum Asked<'w> {
+    Verify(VerifyWords<'w>),
+    Run(RunWords<'w>),
 }
 
 fn is_plain(word: &str) -> bool
@@ -23,27 +41,70 @@ fn is_plain(word: &str) -> bool
     }
 }
 
-/// None where the words are in no form.
-pub(crate) fn read(words: &[Arg]) -> Option<VerifyWords<'_>>
-    ensures { option_map asked_by result ≡ form words.now }
+fn callees(options: &[Arg]) -> Option<bool>
+    ensures { result ≡ callees_of options.now }
 {
-    let [command, source, hardware, function] = words else {
+    match options {
+        [] => Some(false),
+        [option] if option.as_str() == "--callees" => Some(true),
+        _ => None,
+    }
+}
+
+fn verify_words(words: &[Arg]) -> Option<Asked<'_>>
+    ensures { option_map asked_by result ≡ verify_form words.now }
+{
+    let [source, hardware, function, options @ ..] = words else {
         return None;
     };
     let source = source.as_str();
     let hardware = hardware.as_str();
     let function = function.as_str();
-    if command.as_str() == "verify"
-        && is_plain(source)
-        && is_plain(hardware)
-        && is_plain(function)
-    {
-        Some(VerifyWords {
+    if is_plain(source) && is_plain(hardware) && is_plain(function) {
+        let callees = callees(options)?;
+        Some(Asked::Verify(VerifyWords {
             source,
             hardware,
             function,
-        })
+            callees,
+        }))
     } else {
         None
+    }
+}
+
+fn run_words(words: &[Arg]) -> Option<Asked<'_>>
+    ensures { option_map asked_by result ≡ run_form words.now }
+{
+    let [source, hardware, inputs, function] = words else {
+        return None;
+    };
+    let source = source.as_str();
+    let hardware = hardware.as_str();
+    let inputs = inputs.as_str();
+    let function = function.as_str();
+    if is_plain(source) && is_plain(hardware) && is_plain(inputs) && is_plain(function) {
+        Some(Asked::Run(RunWords {
+            source,
+            hardware,
+            inputs,
+            function,
+        }))
+    } else {
+        None
+    }
+}
+
+/// None where the words are in no form.
+pub(crate) fn read(words: &[Arg]) -> Option<Asked<'_>>
+    ensures { option_map asked_by result ≡ form words.now }
+{
+    let [command, words @ ..] = words else {
+        return None;
+    };
+    match command.as_str() {
+        "verify" => verify_words(words),
+        "run" => run_words(words),
+        _ => None,
     }
 }

@@ -1,4 +1,4 @@
-use Rattle.chisel_top.proofs.Headline.{accepted_hold, undecided_near}
+use Rattle.chisel_top.proofs.Readiness.{all_accepted_hold, all_undecided_near}
 use Rattle.chisel_top.proofs.Runs.{run_counts, run_log, run_words, run_no_form, run_read_fault, run_memory, run_write_fault, run_report, run_causes}
 use Rattle.chisel_top.proofs.program.run.Goals as goal
 
@@ -30,7 +30,7 @@ pub returns-clause-report : goal.returns-clause-report
 returns-clause-report g c = run_report c.args.words.now _ _ _ _ _ _ _ _ _ c.outcome-outcome.ensures.is_form c.outcome-outcome.ensures.fetching c.outcome-outcome.ensures.agrees c.tell.ensures.delivers
 
 pub returns-clause-headline : goal.returns-clause-headline
-returns-clause-headline g c = λ files tells. accepted_hold c.args.words.now files
+returns-clause-headline g c = λ files tells. all_accepted_hold c.args.words.now files
 
 pub returns-clause-undecided : goal.returns-clause-undecided
-returns-clause-undecided g c = λ files tells. undecided_near c.args.words.now files
+returns-clause-undecided g c = λ files tells. all_undecided_near c.args.words.now files

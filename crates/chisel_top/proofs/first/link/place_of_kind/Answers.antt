@@ -1,6 +1,0 @@
-use Rattle.std.proofs.Common.{map}
-use Rattle.chisel_top.proofs.FirstKernels.{place_from}
-use Rattle.chisel_top.proofs.first.link.place_of_kind.Goals as goal
-
-pub loop-i-init : goal.loop-i-init
-loop-i-init c = place_from c.args.name.now (map (λ m. m.name) c.args.kinds.now)

@@ -1,0 +1,160 @@
+//! The command `run`.
+
+ghost use Rattle.std.specs.Prelude.{◌≡◌, ◌⊎◌, ◌<◌, ◌∷◌, [], List, ℕ, Some, Ok, IfOk, IfErr, length, sum_by, ◌≤◌};
+ghost use Rattle.std.specs.List.{All, AllZip};
+ghost use Rattle.rely_kernel.specs.Bound.{IsStart};
+ghost use Rattle.rely_kernel.specs.Valid.{IsLinked, IsValid};
+ghost use Rattle.rely_machine.specs.Run.{IsOutcome};
+ghost use Rattle.chisel_top.specs.Asked.{to_run};
+ghost use Rattle.chisel_top.specs.Findings.{Files, asked, starts_in};
+ghost use Rattle.chisel_top.specs.Promises.{Tells};
+ghost use Rattle.chisel_top.specs.Simulations.{RunsPass, RunsTell, energy_line, most_steps, sample_line, sample_lines};
+ghost use Rattle.chisel_top.specs.Steps.{Agrees, Fetching, IsAsked, IsReady, Refuses, input_refused};
+ghost use Rattle.chisel_top.specs.Words.{ToRun};
+ghost use Rattle.chisel_top.specs.declared.fault.Fault.TheVariants as fault;
+
+use crate::Status;
+use crate::fault::{Fault, Refusal, Written};
+use crate::fetch::{LONGEST_INPUTS, fetch};
+use crate::front::ready_of;
+use crate::ready::Ready;
+use crate::words::RunWords;
+use chisel_outside::Shelf;
+use itoa::Buffer;
+use rely_inputs::InputFault;
+use rely_kernel::{Kernel, Linked, Store};
+use rely_machine::{Outcome, RunFault, energy};
+use rely_num::List;
+use std::alloc::{AllocError, Global};
+
+/// The steps that a command may not reach in all its runs together.
+pub(crate) const MOST_STEPS: u32 = 67_108_864;
+
+fn input_refused<'w>(fault: InputFault) -> Fault<'w>
+    ensures { result ≡ input_refused fault }
+{
+    match fault {
+        InputFault::Memory => Fault::Memory,
+        other => Fault::Refused(Refusal::Inputs(other)),
+    }
+}
+
+/// The sample inputs of these bytes.
+fn starts_in<'w>(alloc: Global, k: &Kernel, bytes: &[u8]) -> Result<List<Store>, Fault<'w>>
+    requires { IsValid k.now }
+    ensures ok { IfOk result (λ ss. starts_in k.now bytes.now ≡ Ok ss) }
+    ensures starts { IfOk result (λ ss. All (IsStart k.now) ss) }
+    ensures few { IfOk result (λ ss. length ss ≤ 64) }
+    ensures some { IfOk result (λ ss. 1 ≤ length ss) }
+    ensures err { IfErr result (Refuses fault.Refused (starts_in k.now bytes.now)) }
+{
+    match rely_inputs::read(alloc, k, bytes) {
+        Ok(starts) => Ok(starts),
+        Err(fault) => Err(input_refused(fault)),
+    }
+}
+
+/// The reliable runs from all starts, unless they take too many steps together.
+#[tactic(auto, using(crate::proofs::Simulating::runs_pass))]
+fn outcomes<'w>(alloc: Global, l: &Linked, starts: &[Store]) -> Result<Vec<Outcome>, Fault<'w>>
+    requires linked { IsLinked l.now }
+    requires starts { All (IsStart l.now.kernel) starts.now }
+    ensures each { IfOk result (λ os. AllZip (IsOutcome l.now) starts.now os.items) }
+    ensures few { IfOk result (λ os. sum_by (λ o. o.steps) os.items < most_steps) }
+    ensures err { IfErr result (λ f. (f ≡ fault.Memory) ⊎ ((f ≡ fault.Steps) × RunsPass l.now starts.now)) }
+{
+    let mut outcomes = Vec::new(alloc);
+    let mut left = u64::from(MOST_STEPS);
+    for start in starts {
+        match rely_machine::run(alloc, l, start, left) {
+            Ok(outcome) => {
+                left -= outcome.steps;
+                outcomes.push(outcome)?;
+            }
+            Err(RunFault::Steps) => return Err(Fault::Steps),
+            Err(RunFault::Memory) => return Err(Fault::Memory),
+        }
+    }
+    Ok(outcomes)
+}
+
+/// The line of the sample with that number, counted from 1.
+fn sample_line(alloc: Global, number: u32, outcome: &Outcome) -> Result<Vec<u8>, AllocError>
+    ensures { IfOk result (λ v. v.items ≡ sample_line number outcome.now) }
+{
+    let mut buffer = Buffer::new();
+    let mut text = Vec::from_slice(alloc, b"sample ")?;
+    text.extend_from_slice(buffer.format(number).as_bytes())?;
+    text.extend_from_slice(b" result ")?;
+    text.extend_from_slice(buffer.format(outcome.store.result).as_bytes())?;
+    text.extend_from_slice(b" steps ")?;
+    text.extend_from_slice(buffer.format(outcome.steps).as_bytes())?;
+    text.extend_from_slice(b"\n")?;
+    Ok(text)
+}
+
+fn sample_lines(alloc: Global, outcomes: &[Outcome]) -> Result<Vec<u8>, AllocError>
+    requires { length outcomes.now ≤ 64 }
+    ensures { IfOk result (λ v. v.items ≡ sample_lines 1 outcomes.now) }
+{
+    let mut text = Vec::new(alloc);
+    for (i, outcome) in outcomes.iter().enumerate() {
+        let line = sample_line(alloc, i as u32 + 1, outcome)?;
+        text.extend_from_slice(line.as_slice())?;
+    }
+    Ok(text)
+}
+
+/// What is printed of the runs from these starts.
+fn told<'w>(alloc: Global, ready: &Ready, starts: &[Store]) -> Result<List<u8>, Fault<'w>>
+    requires ready { IsReady ready.now }
+    requires starts { All (IsStart ready.now.linked.kernel) starts.now }
+    requires few { length starts.now ≤ 64 }
+    requires some { 1 ≤ length starts.now }
+    ensures ok { IfOk result (RunsTell ready.now starts.now) }
+    ensures err { IfErr result (λ f. (f ≡ fault.Memory) ⊎ ((f ≡ fault.Steps) × RunsPass ready.now.linked starts.now)) }
+{
+    let outcomes = match outcomes(alloc, &ready.linked, starts) {
+        Ok(outcomes) => outcomes,
+        Err(fault) => return Err(fault),
+    };
+    let mut text = sample_lines(alloc, outcomes.as_slice())?;
+    let energy = energy(&ready.linked, &ready.hardware, outcomes.as_slice());
+    let mut buffer = Buffer::new();
+    text.extend_from_slice(b"energy ")?;
+    text.extend_from_slice(buffer.format(energy).as_bytes())?;
+    text.extend_from_slice(b"\n")?;
+    Ok(List::from_vec(text))
+}
+
+/// Runs the function on the samples; what it has to say is written by the caller.
+pub(crate) fn simulate<'w, F: Shelf>(
+    alloc: Global,
+    words: RunWords<'w>,
+    shelf: &mut F,
+) -> Result<Written, Fault<'w>>
+    ensures held { (n : List ℕ) → F.held shelf.new n ≡ F.held shelf.old n }
+    ensures fetching { Fetching (words.entry.source.now ∷ words.entry.hardware.now ∷ words.entry.inputs.now ∷ []) (F.log shelf.old) (F.log shelf.new) result }
+    ensures agrees { (files : Files) → Tells (F.held shelf.old) files → Agrees result (asked (Some (ToRun (to_run words.entry))) files) }
+    ensures is_asked { IsAsked result }
+{
+    let ready = match ready_of(alloc, words.source, words.hardware, words.function, shelf) {
+        Ok(ready) => ready,
+        Err(fault) => return Err(fault),
+    };
+    let bytes = match fetch(alloc, shelf, words.inputs, LONGEST_INPUTS) {
+        Ok(bytes) => bytes,
+        Err(fault) => return Err(fault),
+    };
+    let starts = match starts_in(alloc, &ready.linked.kernel, bytes.as_slice()) {
+        Ok(starts) => starts,
+        Err(fault) => return Err(fault),
+    };
+    match told(alloc, &ready, starts.as_slice()) {
+        Ok(text) => Ok(Written {
+            text,
+            status: Status::Done,
+        }),
+        Err(fault) => Err(fault),
+    }
+}
