@@ -1,5 +1,10 @@
 pub mod Blocks
 pub mod Completes
+pub mod Counting
+pub mod CountingExprs
+pub mod CountingSources
+pub mod CountingStmts
+pub mod CountingTokens
 pub mod Each
 pub mod Exprs
 pub mod Finds
@@ -13,6 +18,7 @@ pub mod LimitsTokens
 pub mod Lists
 pub mod Marks
 pub mod Meets
+pub mod OneAnswer
 pub mod Passes
 pub mod Sources
 pub mod Stmts

@@ -12,13 +12,16 @@ use Rattle.rely_parser.specs.declared.fault.ParseFault.{ParseFault}
 use Rattle.rely_parser.specs.declared.fault.ParseFault.TheVariants as fault
 use Rattle.rely_parser.specs.State.{place_from, State, Reading, end_of, ◌>>=◌}
 use Rattle.rely_parser.specs.Units.{functions_at, whole, unit_of}
-use Rattle.rely_parser.specs.Productions.{Spells, Agree, OneOrMore, Func, Spelled, Begins, Reaches, Refuses}
+use Rattle.rely_parser.specs.Counts.{Counts, nothing, with_token, with_tokens, IsDeep, IsCrowded, IsWithin, AllWithin, PassesFirst}
+use Rattle.rely_parser.specs.Productions.{Spells, Agree, OneOrMore, Func, Spelled, Begins, Reaches, Refuses, AreOf, NoUnit}
 use Rattle.rely_parser.proofs.Laws.{Answer, Halted, last_place, assoc}
 use Rattle.rely_parser.proofs.Meets.{Run, Share, at_last, before, Stopped, Goes}
 use Rattle.rely_parser.proofs.Wholly.{meet-functions}
 use Rattle.rely_parser.proofs.Finds.{Behind, here, later}
 use Rattle.rely_parser.specs.Productions.{NoneBegins, Reaches, Misplaced}
 use Rattle.rely_parser.proofs.Wholes.{Gives, gives}
+use Rattle.rely_parser.proofs.Counting.{Paused, Passed}
+use Rattle.rely_parser.proofs.CountingSources.{Limited, limited}
 use Rattle.rely_parser.proofs.Sources.{on-functions, says_within, top, agree-within, spare-within, agree_front}
 
 -- a unit begins with the tokens before the one at p
@@ -29,12 +32,21 @@ pub record GoesTo (text : Bytes) (toks : List Token) (p : ℕ) : Type 0 where
   pub stands : place_from (end_of text) bad ≡ p
   pub begins : Begins text front
 
+-- a unit begins with the tokens up to the one at p, itself included
+pub record Comes (text : Bytes) (toks : List Token) (p : ℕ) : Type 0 where
+  pub front : List Token
+  pub token : Token
+  pub rest : List Token
+  pub split : toks ≡ front ++ token ∷ rest
+  pub stands : token.span.from ≡ p
+  pub begins : Begins text (front ++ token ∷ [])
+
 -- what a reading of a source says
 abbrev pub Judged : Bytes → List Token → Reading UnitTree → Type 0
 Judged text toks (Ok u) = Spelled text toks u
 Judged text toks (Err (fault.Expected p)) = GoesTo text toks p
-Judged text toks (Err (fault.Deep p)) = Reaches text toks p
-Judged text toks (Err (fault.Many p)) = Reaches text toks p
+Judged text toks (Err (fault.Deep p)) = Comes text toks p
+Judged text toks (Err (fault.Many p)) = Comes text toks p
 Judged text toks (Err fault.Memory) = Unit {0}
 
 abbrev pub Functions : (Span → Bytes) → Spells (List FuncTree)
@@ -64,7 +76,7 @@ last-of x (y ∷ ys) =
     let l = last-of y ys in
     record { init = x ∷ l.init; token = l.token; is = ap (λ zs. x ∷ zs) l.is; place = λ q. l.place x.span.from }
 
-reach : (text : Bytes) (toks : List Token) (p q : ℕ) (x : Token) (xs rest : List Token) → toks ≡ (x ∷ xs) ++ rest → last_place q (x ∷ xs) ≡ p → Begins text (x ∷ xs) → Reaches text toks p
+reach : (text : Bytes) (toks : List Token) (p q : ℕ) (x : Token) (xs rest : List Token) → toks ≡ (x ∷ xs) ++ rest → last_place q (x ∷ xs) ≡ p → Begins text (x ∷ xs) → Comes text toks p
 reach text toks p q x xs rest e stands b =
     let l = last-of x xs in
     record {
@@ -80,12 +92,12 @@ begins-halted : (text : Bytes) (says : Span → Bytes) (toks : List Token) → A
 begins-halted text says toks g q p h =
     record { says = says; agree = agree_front text says h.front h.rest (subst (Agree text says) h.split g); more = h.more ++ []; tree = record { functions = h.tree }; spells = h.spells [] }
 
-reach-by : (text : Bytes) (toks : List Token) (p : ℕ) (xs ys rest more : List Token) → toks ≡ xs ++ rest → toks ≡ ys ++ more → last_place 0 xs ≡ p → last_place 1 ys ≡ p → Begins text xs → Begins text ys → Reaches text toks p
+reach-by : (text : Bytes) (toks : List Token) (p : ℕ) (xs ys rest more : List Token) → toks ≡ xs ++ rest → toks ≡ ys ++ more → last_place 0 xs ≡ p → last_place 1 ys ≡ p → Begins text xs → Begins text ys → Comes text toks p
 reach-by text toks p [] [] rest more e f i j b c = absurd (omega (arith, i, j))
 reach-by text toks p [] (y ∷ ys) rest more e f i j b c = reach text toks p 1 y ys more f j c
 reach-by text toks p (x ∷ xs) ys rest more e f i j b c = reach text toks p 0 x xs rest e i b
 
-reaches : (text : Bytes) (says : Span → Bytes) (toks : List Token) → Agree text says toks → (p : ℕ) → ((q : ℕ) → Halted (Functions says) toks q p) → Reaches text toks p
+reaches : (text : Bytes) (says : Span → Bytes) (toks : List Token) → Agree text says toks → (p : ℕ) → ((q : ℕ) → Halted (Functions says) toks q p) → Comes text toks p
 reaches text says toks g p h =
     let a = h 0 in
     let b = h 1 in
@@ -196,22 +208,99 @@ none-begins text toks front (t ∷ rest) p e q u r = λ b.
     let at = d.stands in
     absurd (omega (arith, less, far, at, q))
 
-misplaced : (text : Bytes) (toks : List Token) (p : ℕ) → unit_of text toks ≡ Err (fault.Expected p) → GoesTo text toks p → Misplaced text toks p
-misplaced text toks p e g = record {
+-- the same place in rising tokens is the same split of them
+record Same (f g b c : List Token) : Type 0 where
+  front : f ≡ g
+  rest : b ≡ c
+
+rises-after : (stop : ℕ) (xs ys : List Token) → Rises stop (xs ++ ys) → place_from stop (xs ++ ys) ≤ place_from stop ys
+rises-after stop [] ys r = omega arith
+rises-after stop (x ∷ xs) ys r = let o = rises-after stop xs ys r.1 in let p = r.0 in omega (arith, o, p)
+
+split-same : (stop : ℕ) (f g b c : List Token) → Rises stop (f ++ b) → f ++ b ≡ g ++ c → place_from stop b ≡ place_from stop c → Same f g b c
+split-same stop [] [] b c r e p = record { front = refl; rest = e }
+split-same stop [] (y ∷ ys) b c r e p =
+    let up : Rises stop (y ∷ (ys ++ c)) = subst (Rises stop) e r in
+    let less = up.0 in
+    let far = rises-after stop ys c up.1 in
+    let at = ap (place_from stop) e in
+    absurd (omega (arith, less, far, at, p))
+split-same stop (x ∷ xs) [] b c r e p =
+    let less = r.0 in
+    let far = rises-after stop xs b r.1 in
+    let at = ap (place_from stop) e in
+    absurd (omega (arith, less, far, at, p))
+split-same stop (x ∷ xs) (y ∷ ys) b c r e p =
+    let head : x ≡ y = cc in
+    let tail : xs ++ b ≡ ys ++ c = cc in
+    let s = split-same stop xs ys b c r.1 tail p in
+    record { front = ap (λ z. z ∷ xs) head ∙ ap (λ zs. y ∷ zs) s.front; rest = s.rest }
+
+split-of : (text : Bytes) (toks f g b c : List Token) → AreOf text toks → toks ≡ f ++ b → toks ≡ g ++ c → place_from (end_of text) b ≡ place_from (end_of text) c → Same f g b c
+split-of text toks f g b c d e h p = split-same (end_of text) f g b c (subst (Rises (end_of text)) e (rises-of text 0 toks d.0 d.1)) (sym e ∙ h) p
+
+within-before : (text : Bytes) (toks : List Token) (p : ℕ) (g : GoesTo text toks p) → Paused (end_of text) nothing toks p → AreOf text toks → AllWithin nothing g.front
+within-before text toks p g h d =
+    let s = split-of text toks h.front g.front h.bad g.bad d h.split g.split (h.stands ∙ sym g.stands) in
+    subst (AllWithin nothing) s.front h.within
+
+misplaced : (text : Bytes) (toks : List Token) (p : ℕ) → unit_of text toks ≡ Err (fault.Expected p) → GoesTo text toks p → Paused (end_of text) nothing toks p → Misplaced text toks p
+misplaced text toks p e g h = record {
   front = g.front;
   bad = g.bad;
   split = g.split;
   stands = g.stands;
   begins = g.begins;
   none = λ d. none-begins text toks g.front g.bad p g.split g.stands e (rises-of text 0 toks d.0 d.1);
+  within = within-before text toks p g h;
   whole = λ u d. subst (Gives u) e (gives text toks u d);
 }
 
+passes-first : (Over : Counts → Type 0) (text : Bytes) (toks : List Token) (p : ℕ) (g : Comes text toks p) → Passed Over nothing toks p → AreOf text toks → PassesFirst Over g.front g.token
+passes-first Over text toks p g h d =
+    let s = split-of text toks h.front g.front (h.token ∷ h.rest) (g.token ∷ g.rest) d h.split g.split (h.stands ∙ sym g.stands) in
+    let rest = s.rest in
+    let token : h.token ≡ g.token = cc in
+    record {
+      before = subst (AllWithin nothing) s.front h.within;
+      over = subst (λ t. Over (with_token t.kind (with_tokens g.front nothing))) token (subst (λ f. Over (with_token h.token.kind (with_tokens f nothing))) s.front h.over);
+    }
+
+reached : (Over : Counts → Type 0) (text : Bytes) (toks : List Token) (p : ℕ) → Comes text toks p → Passed Over nothing toks p → Reaches Over text toks p
+reached Over text toks p g h =
+    record { front = g.front; token = g.token; rest = g.rest; split = g.split; stands = g.stands; begins = g.begins; passes = passes-first Over text toks p g h }
+
 pub refuses_of : (text : Bytes) (toks : List Token) (f : ParseFault) → unit_of text toks ≡ Err f → Refuses text toks f
-refuses_of text toks (fault.Expected p) e = misplaced text toks p e (subst (Judged text toks) e (judged text toks))
-refuses_of text toks (fault.Deep p) e = subst (Judged text toks) e (judged text toks)
-refuses_of text toks (fault.Many p) e = subst (Judged text toks) e (judged text toks)
+refuses_of text toks (fault.Expected p) e = misplaced text toks p e (subst (Judged text toks) e (judged text toks)) (subst (Limited text toks) e (limited text toks))
+refuses_of text toks (fault.Deep p) e = reached IsDeep text toks p (subst (Judged text toks) e (judged text toks)) (subst (Limited text toks) e (limited text toks))
+refuses_of text toks (fault.Many p) e = reached IsCrowded text toks p (subst (Judged text toks) e (judged text toks)) (subst (Limited text toks) e (limited text toks))
 refuses_of text toks fault.Memory e = tt {0}
+
+-- ---- units within the limits
+
+pub within-at : (c : Counts) (front : List Token) (t : Token) (rest : List Token) → AllWithin c (front ++ t ∷ rest) → IsWithin (with_token t.kind (with_tokens front c))
+within-at c [] t rest w = w.0
+within-at c (x ∷ xs) t rest w = within-at (with_token x.kind c) xs t rest w.1
+
+pub not-deep : (c : Counts) → IsWithin c → IsDeep c → ⊥
+not-deep c w o = let few = w.brackets in absurd (omega (arith, few, o))
+
+pub not-crowded : (c : Counts) → IsWithin c → IsCrowded c → ⊥
+not-crowded c w (inl o) = let few = w.functions in absurd (omega (arith, few, o))
+not-crowded c w (inr (inl o)) = let few = w.claims in absurd (omega (arith, few, o))
+not-crowded c w (inr (inr (inl o))) = let few = w.variables in absurd (omega (arith, few, o))
+not-crowded c w (inr (inr (inr (inl o)))) = let few = w.operators in absurd (omega (arith, few, o))
+not-crowded c w (inr (inr (inr (inr o)))) = let few = w.calls in absurd (omega (arith, few, o))
+
+within-split : (toks front : List Token) (t : Token) (rest : List Token) → toks ≡ front ++ t ∷ rest → AllWithin nothing toks → IsWithin (with_token t.kind (with_tokens front nothing))
+within-split toks front t rest e w = within-at nothing front t rest (subst (AllWithin nothing) e w)
+
+no-unit : (text : Bytes) (toks : List Token) (r : Reading UnitTree) → ((u : UnitTree) → Spelled text toks u → Gives u r) → Limited text toks r → IfErr r (λ e. (e ≡ fault.Memory) ⊎ NoUnit text toks)
+no-unit text toks (Ok u) g l = tt {0}
+no-unit text toks (Err (fault.Expected p)) g l = inr (λ u d w. g u d)
+no-unit text toks (Err (fault.Deep p)) g l = inr (λ u d w. not-deep _ (within-split toks l.front l.token l.rest l.split w) l.over)
+no-unit text toks (Err (fault.Many p)) g l = inr (λ u d w. not-crowded _ (within-split toks l.front l.token l.rest l.split w) l.over)
+no-unit text toks (Err fault.Memory) g l = inl refl
 
 pub only_of : (text : Bytes) (toks : List Token) (u : UnitTree) → unit_of text toks ≡ Ok u → (v : UnitTree) → Spelled text toks v → v ≡ u
 only_of text toks u e v d = sym (subst (Gives v) e (gives text toks v d))
@@ -233,4 +322,16 @@ pub only-if : (text : Bytes) (toks : List Token) (r : Result declared.Unit Parse
 only-if text toks (Ok u) h = only_of text toks (unit_shape u) h
 only-if text toks (Err e) h = h
 
-pub ruleset sources = (spelled-if, only-if, refuses-if)
+no-unit-or : (text : Bytes) (toks : List Token) (e : ParseFault) → (e ≡ fault.Memory) ⊎ (unit_of text toks ≡ Err e) → (e ≡ fault.Memory) ⊎ NoUnit text toks
+no-unit-or text toks e (inl m) = inl m
+no-unit-or text toks e (inr f) = subst (λ r. IfErr r (λ e. (e ≡ fault.Memory) ⊎ NoUnit text toks)) f (no-unit text toks (unit_of text toks) (λ u d. gives text toks u d) (limited text toks))
+
+pub no-unit-if : (text : Bytes) (toks : List Token) (r : Result declared.Unit ParseFault) → IfErr r (λ e. (e ≡ fault.Memory) ⊎ (unit_of text toks ≡ Err e)) → IfErr r (λ e. (e ≡ fault.Memory) ⊎ NoUnit text toks)
+no-unit-if text toks (Ok u) h = h
+no-unit-if text toks (Err e) h = no-unit-or text toks e h
+
+pub within-if : (text : Bytes) (toks : List Token) (r : Result declared.Unit ParseFault) → IfOk r (λ u. unit_of text toks ≡ Ok (unit_shape u)) → IfOk r (λ u. AllWithin nothing toks)
+within-if text toks (Ok u) h = subst (Limited text toks) h (limited text toks)
+within-if text toks (Err e) h = h
+
+pub ruleset sources = (spelled-if, only-if, refuses-if, no-unit-if)

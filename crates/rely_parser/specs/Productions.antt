@@ -13,6 +13,7 @@ use Rattle.rely_lexer.specs.declared.token.Word.TheVariants as word
 use Rattle.rely_tree.specs.Tree.{IdentTree, KindTree, PlainTree, NamedTree, FreeTree, ExprTree, NumTree, NameTree, ElemTree, BinTree, StmtTree, SetTree, SetElemTree, IfTree, WhileTree, RepeatTree, CallTree, ReturnTree, Block, ended, also, DeclTree, SaidTree, FuncTree, UnitTree}
 use Rattle.rely_parser.specs.declared.fault.ParseFault.{ParseFault}
 use Rattle.rely_parser.specs.declared.fault.ParseFault.TheVariants as fault
+use Rattle.rely_parser.specs.Counts.{Counts, nothing, AllWithin, IsDeep, IsCrowded, PassesFirst}
 use Rattle.rely_parser.specs.State.{height, word_at, end_of, place_from}
 use Rattle.rely_parser.specs.Units.{is_amount}
 
@@ -225,7 +226,7 @@ abbrev pub NoneBegins : Bytes → List Token → List Token → Type 0
 NoneBegins text front [] = Unit {0}
 NoneBegins text front (t ∷ ts) = Begins text (front ++ t ∷ []) → ⊥
 
--- the tokens are no unit; the token at p, or the text's end there, is the first that none begins with
+-- the tokens are no unit; the token at p, or the text's end there, is the first that none begins with, and none before it passes a limit
 pub record Misplaced (text : Bytes) (toks : List Token) (p : ℕ) : Type 0 where
   pub front : List Token
   pub bad : List Token
@@ -233,20 +234,26 @@ pub record Misplaced (text : Bytes) (toks : List Token) (p : ℕ) : Type 0 where
   pub stands : place_from (end_of text) bad ≡ p
   pub begins : Begins text front
   pub none : AreOf text toks → NoneBegins text front bad
+  pub within : AreOf text toks → AllWithin nothing front
   pub whole : (u : UnitTree) → Spelled text toks u → ⊥
 
--- a unit begins with the tokens up to the one at p, itself included
-pub record Reaches (text : Bytes) (toks : List Token) (p : ℕ) : Type 0 where
+-- a unit begins with the tokens up to the one at p, itself included, and that one is the first that passes a limit
+pub record Reaches (Over : Counts → Type 0) (text : Bytes) (toks : List Token) (p : ℕ) : Type 0 where
   pub front : List Token
   pub token : Token
   pub rest : List Token
   pub split : toks ≡ front ++ token ∷ rest
   pub stands : token.span.from ≡ p
   pub begins : Begins text (front ++ token ∷ [])
+  pub passes : AreOf text toks → PassesFirst Over front token
 
 -- what a refusal says of the tokens
 abbrev pub Refuses : Bytes → List Token → ParseFault → Type 0
 Refuses text toks (fault.Expected p) = Misplaced text toks p
-Refuses text toks (fault.Deep p) = Reaches text toks p
-Refuses text toks (fault.Many p) = Reaches text toks p
+Refuses text toks (fault.Deep p) = Reaches IsDeep text toks p
+Refuses text toks (fault.Many p) = Reaches IsCrowded text toks p
 Refuses text toks fault.Memory = Unit {0}
+
+-- the tokens are no unit within the limits
+abbrev pub NoUnit : Bytes → List Token → Type 0
+NoUnit text toks = (u : UnitTree) → Spelled text toks u → AllWithin nothing toks → ⊥

@@ -4,10 +4,12 @@
 mod decl;
 mod expr;
 mod fault;
+mod law;
 mod leaf;
 mod rest;
 mod stmt;
 mod unit;
 
 pub use fault::ParseFault;
+pub use law::one_answer;
 pub use unit::parse;

@@ -3,7 +3,8 @@ ghost use Rattle.std.specs.Prelude.{◌≡◌, ◌<◌, ◌≤◌, ◌+◌, ◌�
 ghost use Rattle.rely_tree.specs.Tree.{UnitTree};
 ghost use Rattle.rely_tree.specs.Shape.{stmt_shape, block_shape, func_shape, unit_shape};
 ghost use Rattle.rely_parser.specs.State.{state_of, is_memory, end_of};
-ghost use Rattle.rely_parser.specs.Productions.{Spelled, Refuses};
+ghost use Rattle.rely_parser.specs.Counts.{AllWithin, nothing};
+ghost use Rattle.rely_parser.specs.Productions.{NoUnit, Spelled, Refuses};
 ghost use Rattle.rely_parser.specs.Units.{last_at, body_at, function_at, functions_at, unit_of};
 
 use crate::decl::{claims, locals, params};
@@ -170,8 +171,10 @@ pub fn parse<'a>(
     ensures ok { IfOk result (λ u. unit_of text.now toks.now ≡ Ok (unit_shape u)) }
     ensures spells { IfOk result (λ u. Spelled text.now toks.now (unit_shape u)) }
     ensures only { IfOk result (λ u. (v : UnitTree) → Spelled text.now toks.now v → v ≡ unit_shape u) }
+    ensures within { IfOk result (λ u. AllWithin nothing toks.now) }
     ensures err { IfErr result (λ e. (e ≡ ParseFault.Memory) ⊎ (unit_of text.now toks.now ≡ Err e)) }
     ensures refuses { IfErr result (λ e. Refuses text.now toks.now e) }
+    ensures no_unit { IfErr result (λ e. (e ≡ ParseFault.Memory) ⊎ NoUnit text.now toks.now) }
 {
     unit(arena, text, toks)
 }
