@@ -4,4 +4,5 @@ pub mod Pieces
 pub mod FormLemmas
 pub mod ReadingLaws
 pub mod LongestLaws
+pub mod FrontLaws
 pub mod RefusalLaws

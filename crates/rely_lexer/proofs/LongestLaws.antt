@@ -175,7 +175,7 @@ name_piece-longest text letter some zero j few form = omega arith
 name_piece-longest text letter some (suc n) j few form = named text n j letter some few form
 
 -- the same for any length
-reached : (text : Bytes) → is_digit (get_or text 0 0) ≡ true → 0 < length text → (k : ℕ) (j : TokenKind) → k ≤ length text → HasForm j (take k text) →
+pub reached : (text : Bytes) → is_digit (get_or text 0 0) ≡ true → 0 < length text → (k : ℕ) (j : TokenKind) → k ≤ length text → HasForm j (take k text) →
     k ≤ prefix_len is_digit text + fraction_length (drop (prefix_len is_digit text) text)
 reached text digit some zero j few form = omega arith
 reached text digit some (suc k) j few form = numbered text k j digit some few form

@@ -23,7 +23,7 @@ take-nil zero = refl
 take-nil (suc n) = refl
 
 -- so many bytes are a gap up to so many more, from inside a comment or not: where the text goes on behind those, it does so with no newline
-Reaches : Bool → Bool → Bytes → ℕ → ℕ → Type 0
+unfoldable pub Reaches : Bool → Bool → Bytes → ℕ → ℕ → Type 0
 Reaches ends inside text m n =
     is_gap ends false (take m (drop n text)) ≡ true → (ends ≡ true) ⊎ ((n < length text) × (m ≡ 0 → get_or text n 0 ≢ 10)) → is_gap ends inside (take (n + m) text) ≡ true
 
@@ -91,7 +91,7 @@ blank-gap ends byte bytes m blank gap end =
     rw e (cond-true (is_blank byte) (is_gap ends false (take m bytes)) (begins_comment (byte ∷ take m bytes) && is_gap ends true (take m bytes)) blank ∙ gap)
 
 -- the gap at the front of a text
-front-gap : (ends : Bool) (text : Bytes) (m : ℕ) → 0 < gap_length text → Reaches ends false text m (gap_length text)
+pub front-gap : (ends : Bool) (text : Bytes) (m : ℕ) → 0 < gap_length text → Reaches ends false text m (gap_length text)
 unfolding gap_length
 front-gap ends [] m some = absurd (omega arith)
 front-gap ends (byte ∷ bytes) m some =
@@ -133,7 +133,7 @@ gap-before text at n (token ∷ tokens) is some inside (after, full, fits, gap, 
     (omega arith, full, fits, subst (λ (k : ℕ). is_gap false false (take k rest) ≡ true) same (reach behind (inr (shorter, first))), form, longest, more)
 
 -- the longest piece at a place is the longest from there on
-IsLongest-from_piece : (text : Bytes) (at n : ℕ) (k : TokenKind) → IsLongestPiece (drop at text) (Lexeme k n) → IsLongest text at (at + n)
+pub IsLongest-from_piece : (text : Bytes) (at n : ℕ) (k : TokenKind) → IsLongestPiece (drop at text) (Lexeme k n) → IsLongest text at (at + n)
 IsLongest-from_piece text at n k longest = λ end j inside form. omega (arith, longest (end - at) j (omega (arith, length-drop at text)) form)
 
 -- a token, and the tokens behind it

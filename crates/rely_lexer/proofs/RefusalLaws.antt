@@ -1,7 +1,7 @@
 -- Each refusal has its cause.
 use Rattle.std.proofs.Common.{◌≡◌, ℕ, zero, suc, ◌+◌, ◌-◌, ◌<◌, ◌≤◌, nat_lt, ◌^◌, ◌⊎◌, inl, inr, ⊎_elim, Bool, true, false, cond, List, [], ◌∷◌, take, drop, length, get_or, Option, Some, None, Result, Ok, Err, refl, ap, sym, ◌∙◌, subst, arith, length-drop, option_map, unwrap_or}
 use Rattle.std.specs.Option.{option_or}
-use Rattle.std.specs.List.{prefix_len}
+use Rattle.std.specs.List.{prefix_len, slice_range}
 use Rattle.std.proofs.lemmas.Bool.{cond_both, both_ways, ltb-true, ltb-false, cases_lt}
 use Rattle.std.proofs.lemmas.List.{get_or-drop}
 use Rattle.std.proofs.lemmas.List.Sums.{prefix_len-le-length}
@@ -17,17 +17,20 @@ use Rattle.rely_lexer.specs.declared.piece.Piece.{Piece}
 use Rattle.rely_lexer.specs.declared.piece.Piece.TheVariants.{Gap, Lexeme, Wide, Bad}
 use Rattle.rely_lexer.specs.Forms.{operator_of, is_mark, mark_kind, alone, sign_kind}
 use Rattle.rely_lexer.specs.Tokens.{IsWithin, is_blank, is_in_line, begins_comment, piece_of, token_piece, gap_length, name_piece, number_piece, fraction_length, whole_piece, sign_piece, token_at, token_then, tokens_behind, tokens_of}
-use Rattle.rely_lexer.specs.Readings.{HasForm, AreDigits, IsCause}
+use Rattle.rely_lexer.specs.Readings.{HasForm, AreDigits, IsLongest, IsCause}
 use Rattle.rely_lexer.proofs.Pieces.{prefix_len-some, piece_of-within}
-use Rattle.rely_lexer.proofs.FormLemmas.{AreDigits-prefix}
-use Rattle.rely_lexer.proofs.LongestLaws.{short, first-of, is_word-first, first-same}
+use Rattle.rely_lexer.proofs.FormLemmas.{AreDigits-prefix, PieceFits, piece_of-fits}
+use Rattle.rely_lexer.proofs.LongestLaws.{short, first-of, is_word-first, first-same, reached, IsLongestPiece, piece_of-longest}
+use Rattle.rely_lexer.proofs.FrontLaws.{place_of, Fronts, fronts-gap, fronts-token, fronts-here}
 use Rattle.rely_lexer.proofs.Behind.{behind-Gap, behind-Lexeme, behind-Wide, behind-Bad, behind-end}
 
 -- why a piece is refused
 abbrev PieceCause : Bytes → Piece → Type 0
 PieceCause text (Gap n) = Unit {0}
 PieceCause text (Lexeme k n) = Unit {0}
-PieceCause text Wide = (n : ℕ) × (0 < n) × (n ≤ length text) × AreDigits (take n text) × (2 ^ 63 ≤ number_of (take n text))
+PieceCause text Wide =
+    (is_blank (get_or text 0 0) ≡ false)
+    × ((n : ℕ) × (0 < n) × (n ≤ length text) × AreDigits (take n text) × (2 ^ 63 ≤ number_of (take n text)) × ((m : ℕ) (k : TokenKind) → m ≤ length text → HasForm k (take m text) → m ≤ n))
 PieceCause text Bad = (is_blank (get_or text 0 0) ≡ false) × ((n : ℕ) (k : TokenKind) → 0 < n → n ≤ length text → HasForm k (take n text) → ⊥)
 
 -- an operator is a sign
@@ -65,28 +68,39 @@ sign-cause text None None is_two is_one letter digit blank = (
       (short text n k letter digit few form),
 )
 
-whole-cause : (text : Bytes) → is_digit (get_or text 0 0) ≡ true → 0 < length text → PieceCause text (whole_piece (take (prefix_len is_digit text) text))
+whole-cause : (text : Bytes) → is_digit (get_or text 0 0) ≡ true → 0 < length text → is_blank (get_or text 0 0) ≡ false → fraction_length (drop (prefix_len is_digit text) text) ≤ 0 →
+    PieceCause text (whole_piece (take (prefix_len is_digit text) text))
 unfolding whole_piece
-whole-cause text digit some =
+whole-cause text digit some blank none =
     let n = prefix_len is_digit text in
     let digits = take n text in
     let v = number_of digits in
     cond_both (nat_lt v (2 ^ 63)) (Lexeme (kind.Number v) (length digits)) Wide (PieceCause text) (λ _. tt)
-    (λ wide. (n, prefix_len-some is_digit text some digit, prefix_len-le-length is_digit text, AreDigits-prefix text digit, ltb-false v (2 ^ 63) wide))
+    (λ wide. (
+      blank,
+      (
+        n,
+        prefix_len-some is_digit text some digit,
+        prefix_len-le-length is_digit text,
+        AreDigits-prefix text digit,
+        ltb-false v (2 ^ 63) wide,
+        λ m k few form. omega (arith, reached text digit some m k few form, none),
+      ),
+    ))
 
-number-cause : (text : Bytes) → is_digit (get_or text 0 0) ≡ true → 0 < length text → PieceCause text (number_piece text)
+number-cause : (text : Bytes) → is_digit (get_or text 0 0) ≡ true → 0 < length text → is_blank (get_or text 0 0) ≡ false → PieceCause text (number_piece text)
 unfolding number_piece
-number-cause text digit some =
+number-cause text digit some blank =
     let n = prefix_len is_digit text in
     let m = fraction_length (drop n text) in
-    cond_both (nat_lt 0 m) (Lexeme kind.Decimal (n + m)) (whole_piece (take n text)) (PieceCause text) (λ _. tt) (λ _. whole-cause text digit some)
+    cond_both (nat_lt 0 m) (Lexeme kind.Decimal (n + m)) (whole_piece (take n text)) (PieceCause text) (λ _. tt) (λ none. whole-cause text digit some blank (ltb-false 0 m none))
 
 token-cause : (text : Bytes) → 0 < length text → is_blank (get_or text 0 0) ≡ false → PieceCause text (token_piece text)
 unfolding token_piece name_piece sign_piece
 token-cause text some blank =
     let first = get_or text 0 0 in
     cond_both (is_letter first) (name_piece text) (cond (is_digit first) (number_piece text) (sign_piece text)) (PieceCause text) (λ _. tt)
-    (λ letter. cond_both (is_digit first) (number_piece text) (sign_piece text) (PieceCause text) (λ digit. number-cause text digit some)
+    (λ letter. cond_both (is_digit first) (number_piece text) (sign_piece text) (PieceCause text) (λ digit. number-cause text digit some blank)
     (λ digit. sign-cause text (sign_kind (take 2 text)) (sign_kind (take 1 text)) refl refl letter digit blank))
 
 -- where there is no gap, no blank is first
@@ -109,17 +123,31 @@ token-refused : (token : Token) (r : Result (List Token) LexFault) (e : LexFault
 token-refused token (Ok tokens) e is = absurd (cc)
 token-refused token (Err d) e is = is
 
-wide-cause : (text : Bytes) (at : ℕ) → PieceCause (drop at text) Wide → at < length text → IsCause text (NumberWide at)
-wide-cause text at (n, some, few, digits, wide) inside =
+-- why a text is refused at a place, whatever stands before it
+abbrev Here : Bytes → LexFault → Type 0
+Here text TooLong = 65536 < length text
+Here text (BadByte place) = (place < length text) × (is_blank (get_or text place 0) ≡ false) × ((end : ℕ) (k : TokenKind) → place < end → end ≤ length text → HasForm k (slice_range text place end) → ⊥)
+Here text (NumberWide place) =
+    (end : ℕ) × (place < end) × (end ≤ length text) × AreDigits (slice_range text place end) × (2 ^ 63 ≤ number_of (slice_range text place end)) × IsLongest text place end
+Here text Memory = Unit {0}
+
+-- why, and what stands before it
+record Caused (text : Bytes) (at : ℕ) (e : LexFault) : Type 0 where
+  front : Fronts text at (place_of e)
+  here : Here text e
+
+wide-cause : (text : Bytes) (at : ℕ) → PieceCause (drop at text) Wide → at < length text → Here text (NumberWide at)
+wide-cause text at (blank, (n, some, few, digits, wide, longest)) inside =
     let size : n ≡ at + n - at = omega arith in (
       at + n,
       omega arith,
       omega (arith, length-drop at text),
       subst (λ (k : ℕ). AreDigits (take k (drop at text))) size digits,
       subst (λ (k : ℕ). 2 ^ 63 ≤ number_of (take k (drop at text))) size wide,
+      λ end j inside form. omega (arith, longest (end - at) j (omega (arith, length-drop at text)) form),
     )
 
-bad-cause : (text : Bytes) (at : ℕ) → PieceCause (drop at text) Bad → at < length text → IsCause text (BadByte at)
+bad-cause : (text : Bytes) (at : ℕ) → PieceCause (drop at text) Bad → at < length text → Here text (BadByte at)
 bad-cause text at (blank, formless) inside =
     let here : at ≡ at + 0 = omega arith in (
       inside,
@@ -129,45 +157,60 @@ bad-cause text at (blank, formless) inside =
 
 -- what stands at a place, and a refusal there or behind it
 piece-refused : (text : Bytes) (at : ℕ) (e : LexFault) (piece : Piece) →
-    ((to : ℕ) (d : LexFault) → at < to → to ≤ length text → tokens_behind (drop to text) 0 to ≡ Err d → IsCause text d) →
-    at < length text → piece ≡ piece_of (drop at text) → tokens_behind (drop at text) 0 at ≡ Err e → IsCause text e
+    ((to : ℕ) (d : LexFault) → at < to → to ≤ length text → tokens_behind (drop to text) 0 to ≡ Err d → Caused text to d) →
+    at < length text → piece ≡ piece_of (drop at text) → tokens_behind (drop at text) 0 at ≡ Err e → Caused text at e
 piece-refused text at e (Gap n) more inside is read =
     let rest = drop at text in
     let within : IsWithin (length rest) (Gap n) = subst (IsWithin (length rest)) (sym is) (piece_of-within rest (omega (arith, length-drop at text))) in
-    more (at + n) e (omega (arith, within.0)) (omega (arith, within.1, length-drop at text)) (sym (behind-Gap text at n inside is within.0) ∙ read)
+    let fits : n ≡ gap_length rest = subst (PieceFits rest) (sym is) (piece_of-fits rest) in
+    let few : at + n ≤ length text = omega (arith, within.1, length-drop at text) in
+    let c = more (at + n) e (omega (arith, within.0)) few (sym (behind-Gap text at n inside is within.0) ∙ read) in
+    record { front = fronts-gap text at n (place_of e) fits within.0 few c.front; here = c.here }
 piece-refused text at e (Lexeme k n) more inside is read =
     let rest = drop at text in
     let within : IsWithin (length rest) (Lexeme k n) = subst (IsWithin (length rest)) (sym is) (piece_of-within rest (omega (arith, length-drop at text))) in
-    more (at + n) e (omega (arith, within.0)) (omega (arith, within.1, length-drop at text))
-    (token-refused (token_at k at (at + n)) (tokens_behind (drop (at + n) text) 0 (at + n)) e (sym (behind-Lexeme text at k n inside is within.0) ∙ read))
+    let form : HasForm k (take n rest) = subst (PieceFits rest) (sym is) (piece_of-fits rest) in
+    let longest : IsLongestPiece rest (Lexeme k n) = subst (IsLongestPiece rest) (sym is) (piece_of-longest rest (omega (arith, length-drop at text))) in
+    let few : at + n ≤ length text = omega (arith, within.1, length-drop at text) in
+    let c =
+    more (at + n) e (omega (arith, within.0)) few (token-refused (token_at k at (at + n)) (tokens_behind (drop (at + n) text) 0 (at + n)) e (sym (behind-Lexeme text at k n inside is within.0) ∙ read)) in
+    record { front = fronts-token text at n (place_of e) k within.0 few form longest c.front; here = c.here }
 piece-refused text at e Wide more inside is read =
     let rest = drop at text in
     let found : Err (NumberWide at) ≡ Err e = sym (behind-Wide text at inside is) ∙ read in
     let same : NumberWide at ≡ e = cc in
-    subst (IsCause text) same (wide-cause text at (subst (PieceCause rest) (sym is) (piece-cause rest (omega (arith, length-drop at text)))) inside)
+    let cause : PieceCause rest Wide = subst (PieceCause rest) (sym is) (piece-cause rest (omega (arith, length-drop at text))) in
+    subst (Caused text at) same (record { front = fronts-here text at inside cause.0; here = wide-cause text at cause inside })
 piece-refused text at e Bad more inside is read =
     let rest = drop at text in
     let found : Err (BadByte at) ≡ Err e = sym (behind-Bad text at inside is) ∙ read in
     let same : BadByte at ≡ e = cc in
-    subst (IsCause text) same (bad-cause text at (subst (PieceCause rest) (sym is) (piece-cause rest (omega (arith, length-drop at text)))) inside)
+    let cause : PieceCause rest Bad = subst (PieceCause rest) (sym is) (piece-cause rest (omega (arith, length-drop at text))) in
+    subst (Caused text at) same (record { front = fronts-here text at inside cause.0; here = bad-cause text at cause inside })
 
 -- nothing is refused behind the end
-end-accepted : (text : Bytes) (at : ℕ) (e : LexFault) → length text ≤ at → tokens_behind (drop at text) 0 at ≡ Err e → IsCause text e
+end-accepted : (text : Bytes) (at : ℕ) (e : LexFault) → length text ≤ at → tokens_behind (drop at text) 0 at ≡ Err e → Caused text at e
 end-accepted text at e past read = let f : Ok [] ≡ Err e = sym (behind-end text at past) ∙ read in absurd (cc)
 
 -- from each place on, by how many bytes are left at most
-tokens_behind-refused : (left : ℕ) (text : Bytes) (at : ℕ) (e : LexFault) → length text ≤ at + left → tokens_behind (drop at text) 0 at ≡ Err e → IsCause text e
+tokens_behind-refused : (left : ℕ) (text : Bytes) (at : ℕ) (e : LexFault) → length text ≤ at + left → tokens_behind (drop at text) 0 at ≡ Err e → Caused text at e
 tokens_behind-refused zero text at e few read = end-accepted text at e (omega arith) read
 tokens_behind-refused (suc left) text at e few read =
     ⊎_elim (λ inside. piece-refused text at e (piece_of (drop at text)) (λ to d later fits rest. tokens_behind-refused left text to d (omega arith) rest) inside refl read)
     (λ past. end-accepted text at e past read) (cases_lt at (length text))
+
+whole : (text : Bytes) (e : LexFault) → Caused text 0 e → IsCause text e
+whole text TooLong c = c.here
+whole text (BadByte place) c = let f = c.front in let h = c.here in ((f.tokens, f.are), h.0, h.1, h.2)
+whole text (NumberWide place) c = let f = c.front in ((f.tokens, f.are), c.here)
+whole text Memory c = tt
 
 -- a refusal has its cause
 pub tokens_of-refused : (text : Bytes) (e : LexFault) → tokens_of text ≡ Err e → IsCause text e
 unfolding tokens_of
 tokens_of-refused text e read =
     cond_both (nat_lt 65536 (length text)) (Err TooLong) (tokens_behind text 0 0) (λ r. r ≡ Err e → IsCause text e)
-    (λ long is. let same : TooLong ≡ e = cc in subst (IsCause text) same (ltb-true 65536 (length text) long)) (λ _ is. tokens_behind-refused (length text) text 0 e (omega arith) is) read
+    (λ long is. let same : TooLong ≡ e = cc in subst (IsCause text) same (ltb-true 65536 (length text) long)) (λ _ is. whole text e (tokens_behind-refused (length text) text 0 e (omega arith) is)) read
 
 -- want of memory needs no cause
 pub cause_from_refusal : (text : Bytes) (e : LexFault) → (e ≡ Memory) ⊎ (tokens_of text ≡ Err e) → IsCause text e

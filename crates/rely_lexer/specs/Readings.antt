@@ -41,10 +41,24 @@ AreTokensFrom text place (token ∷ tokens) =
     (place ≤ token.span.from) × (token.span.from < token.span.to) × (token.span.to ≤ length text) × IsTrue (is_gap false false (slice_range text place token.span.from))
     × HasForm token.kind (slice_range text token.span.from token.span.to) × IsLongest text token.span.from token.span.to × AreTokensFrom text token.span.to tokens
 
--- why a text is refused: it is too long; or at the place no token and no blank begins; or digits begin there whose number is above 2^63 - 1
+-- from one place up to another the tokens stand so, and a gap behind them
+abbrev pub AreTokensUpTo : Bytes → ℕ → List Token → ℕ → Type 0
+AreTokensUpTo text place [] to = (place ≤ to) × IsTrue (is_gap false false (slice_range text place to))
+AreTokensUpTo text place (token ∷ tokens) to =
+    (place ≤ token.span.from) × (token.span.from < token.span.to) × (token.span.to ≤ length text) × IsTrue (is_gap false false (slice_range text place token.span.from))
+    × HasForm token.kind (slice_range text token.span.from token.span.to) × IsLongest text token.span.from token.span.to × AreTokensUpTo text token.span.to tokens to
+
+-- the text is read up to the place
+abbrev pub IsReadUpTo : Bytes → ℕ → Type 0
+IsReadUpTo text place = (tokens : List Token) × AreTokensUpTo text 0 tokens place
+
+-- why a text is refused: it is too long; or, read up to the place, no token and no blank begins there; or digits begin there whose number is above 2^63 - 1, and no
+-- longer token does
 abbrev pub IsCause : Bytes → LexFault → Type 0
 IsCause text fault.TooLong = 65536 < length text
 IsCause text (fault.BadByte place) =
-    (place < length text) × (is_blank (slice_index text place) ≡ false) × ((end : ℕ) (k : TokenKind) → place < end → end ≤ length text → HasForm k (slice_range text place end) → ⊥)
-IsCause text (fault.NumberWide place) = (end : ℕ) × (place < end) × (end ≤ length text) × AreDigits (slice_range text place end) × (2 ^ 63 ≤ number_of (slice_range text place end))
+    IsReadUpTo text place × (place < length text) × (is_blank (slice_index text place) ≡ false) × ((end : ℕ) (k : TokenKind) → place < end → end ≤ length text → HasForm k (slice_range text place end) → ⊥)
+IsCause text (fault.NumberWide place) =
+    IsReadUpTo text place
+    × ((end : ℕ) × (place < end) × (end ≤ length text) × AreDigits (slice_range text place end) × (2 ^ 63 ≤ number_of (slice_range text place end)) × IsLongest text place end)
 IsCause text fault.Memory = Unit {0}
