@@ -47,6 +47,7 @@ impl Tally {
     /// One step more.
     pub fn walk(&mut self) -> Result<(), RunFault>
         ensures ok { OnOk result (self.new ≡ with_step self.old 0) }
+        ensures room { OnOk result (self.new.taken + 2 ≤ 2 * self.new.steps) }
         ensures full { OnErr result (self.old.limit ≤ self.old.steps + 1) }
     {
         if self.limit - self.steps <= 1 {

@@ -3,7 +3,7 @@ ghost use Rattle.rely_kernel.specs.Machine.{expr_items, items, stmt_items};
 ghost use Rattle.rely_kernel.specs.Text.{Stmt, block_of, expr_of, stmt_of};
 ghost use Rattle.rely_kernel.specs.Valid.{ExprFits};
 ghost use Rattle.rely_kernel.proofs.Fine.{AllFine, Fine};
-ghost use Rattle.rely_faults.specs.Going.{Exceeds, IsRunning, Runs};
+ghost use Rattle.rely_faults.specs.Going.{Exceeds, IsRunning, Runs, here};
 
 use crate::running::Running;
 use crate::tally::Tally;
@@ -21,8 +21,8 @@ pub fn value_of(
 ) -> Result<i64, RunFault>
     requires running { IsRunning r.now held.now }
     requires fits { ExprFits r.now.kernel.now (expr_of e.now) }
-    ensures runs { IfOk result (λ z. Runs r.now (expr_items (expr_of e.now)) (λ st. st) (λ st. z ∷ st) held.now tally.old words.old held.now tally.new words.new) }
-    ensures exceeds { OnErr result (Exceeds r.now (expr_items (expr_of e.now)) (λ st. st) held.now tally.old words.old words.new) }
+    ensures runs { IfOk result (λ z. Runs r.now (expr_items (expr_of e.now)) (λ st. st) (λ st. z ∷ st) (here held.now tally.old words.old) (here held.now tally.new words.new)) }
+    ensures exceeds { OnErr result (Exceeds r.now (expr_items (expr_of e.now)) (λ st. st) (here held.now tally.old words.old) words.new) }
 {
     match e {
         Ex::Num(z) => Ok(*z),
@@ -50,8 +50,8 @@ fn set(
 ) -> Result<(), RunFault>
     requires running { IsRunning r.now held.old }
     requires fits { Fine (r.now.kernel.now ∷ []) 0 r.now.kernel.now (Stmt.Set v (expr_of e.now)) }
-    ensures runs { OnOk result (Runs r.now (stmt_items (Stmt.Set v (expr_of e.now))) (λ st. st) (λ st. st) held.old tally.old words.old held.new tally.new words.new) }
-    ensures exceeds { OnErr result (Exceeds r.now (stmt_items (Stmt.Set v (expr_of e.now))) (λ st. st) held.old tally.old words.old words.new) }
+    ensures runs { OnOk result (Runs r.now (stmt_items (Stmt.Set v (expr_of e.now))) (λ st. st) (λ st. st) (here held.old tally.old words.old) (here held.new tally.new words.new)) }
+    ensures exceeds { OnErr result (Exceeds r.now (stmt_items (Stmt.Set v (expr_of e.now))) (λ st. st) (here held.old tally.old words.old) words.new) }
 {
     let right = value_of(r, e, held, tally, words)?;
     let z = tally.step(r.write_rate(v), right, words)?;
@@ -71,8 +71,8 @@ fn set_element(
 ) -> Result<(), RunFault>
     requires running { IsRunning r.now held.old }
     requires fits { Fine (r.now.kernel.now ∷ []) 0 r.now.kernel.now (Stmt.SetElem a (expr_of index.now) (expr_of e.now)) }
-    ensures runs { OnOk result (Runs r.now (stmt_items (Stmt.SetElem a (expr_of index.now) (expr_of e.now))) (λ st. st) (λ st. st) held.old tally.old words.old held.new tally.new words.new) }
-    ensures exceeds { OnErr result (Exceeds r.now (stmt_items (Stmt.SetElem a (expr_of index.now) (expr_of e.now))) (λ st. st) held.old tally.old words.old words.new) }
+    ensures runs { OnOk result (Runs r.now (stmt_items (Stmt.SetElem a (expr_of index.now) (expr_of e.now))) (λ st. st) (λ st. st) (here held.old tally.old words.old) (here held.new tally.new words.new)) }
+    ensures exceeds { OnErr result (Exceeds r.now (stmt_items (Stmt.SetElem a (expr_of index.now) (expr_of e.now))) (λ st. st) (here held.old tally.old words.old) words.new) }
 {
     let i = value_of(r, index, held, tally, words)?;
     let right = value_of(r, e, held, tally, words)?;
@@ -90,8 +90,8 @@ fn give(
 ) -> Result<(), RunFault>
     requires running { IsRunning r.now held.old }
     requires fits { Fine (r.now.kernel.now ∷ []) 0 r.now.kernel.now (Stmt.Result (expr_of e.now)) }
-    ensures runs { OnOk result (Runs r.now (stmt_items (Stmt.Result (expr_of e.now))) (λ st. st) (λ st. st) held.old tally.old words.old held.new tally.new words.new) }
-    ensures exceeds { OnErr result (Exceeds r.now (stmt_items (Stmt.Result (expr_of e.now))) (λ st. st) held.old tally.old words.old words.new) }
+    ensures runs { OnOk result (Runs r.now (stmt_items (Stmt.Result (expr_of e.now))) (λ st. st) (λ st. st) (here held.old tally.old words.old) (here held.new tally.new words.new)) }
+    ensures exceeds { OnErr result (Exceeds r.now (stmt_items (Stmt.Result (expr_of e.now))) (λ st. st) (here held.old tally.old words.old) words.new) }
 {
     let z = value_of(r, e, held, tally, words)?;
     held.set_result(z);
@@ -109,8 +109,8 @@ pub fn block(
 ) -> Result<(), RunFault>
     requires running { IsRunning r.now held.old }
     requires fits { AllFine (r.now.kernel.now ∷ []) 0 r.now.kernel.now (block_of text.now) }
-    ensures runs { OnOk result (Runs r.now (items (block_of text.now)) (λ st. st) (λ st. st) held.old tally.old words.old held.new tally.new words.new) }
-    ensures exceeds { OnErr result (Exceeds r.now (items (block_of text.now)) (λ st. st) held.old tally.old words.old words.new) }
+    ensures runs { OnOk result (Runs r.now (items (block_of text.now)) (λ st. st) (λ st. st) (here held.old tally.old words.old) (here held.new tally.new words.new)) }
+    ensures exceeds { OnErr result (Exceeds r.now (items (block_of text.now)) (λ st. st) (here held.old tally.old words.old) words.new) }
 {
     for s in text {
         statement(r, &s.what, held, tally, words)?;
@@ -129,8 +129,8 @@ fn statement(
 ) -> Result<(), RunFault>
     requires running { IsRunning r.now held.old }
     requires fits { Fine (r.now.kernel.now ∷ []) 0 r.now.kernel.now (stmt_of what.now) }
-    ensures runs { OnOk result (Runs r.now (stmt_items (stmt_of what.now)) (λ st. st) (λ st. st) held.old tally.old words.old held.new tally.new words.new) }
-    ensures exceeds { OnErr result (Exceeds r.now (stmt_items (stmt_of what.now)) (λ st. st) held.old tally.old words.old words.new) }
+    ensures runs { OnOk result (Runs r.now (stmt_items (stmt_of what.now)) (λ st. st) (λ st. st) (here held.old tally.old words.old) (here held.new tally.new words.new)) }
+    ensures exceeds { OnErr result (Exceeds r.now (stmt_items (stmt_of what.now)) (λ st. st) (here held.old tally.old words.old) words.new) }
 {
     match what {
         StKind::Set(v, e) => set(r, *v, e, held, tally, words),
@@ -155,8 +155,8 @@ fn choose(
 ) -> Result<(), RunFault>
     requires running { IsRunning r.now held.old }
     requires fits { Fine (r.now.kernel.now ∷ []) 0 r.now.kernel.now (Stmt.If (expr_of e.now) (block_of s.now) (block_of t.now)) }
-    ensures runs { OnOk result (Runs r.now (stmt_items (Stmt.If (expr_of e.now) (block_of s.now) (block_of t.now))) (λ st. st) (λ st. st) held.old tally.old words.old held.new tally.new words.new) }
-    ensures exceeds { OnErr result (Exceeds r.now (stmt_items (Stmt.If (expr_of e.now) (block_of s.now) (block_of t.now))) (λ st. st) held.old tally.old words.old words.new) }
+    ensures runs { OnOk result (Runs r.now (stmt_items (Stmt.If (expr_of e.now) (block_of s.now) (block_of t.now))) (λ st. st) (λ st. st) (here held.old tally.old words.old) (here held.new tally.new words.new)) }
+    ensures exceeds { OnErr result (Exceeds r.now (stmt_items (Stmt.If (expr_of e.now) (block_of s.now) (block_of t.now))) (λ st. st) (here held.old tally.old words.old) words.new) }
 {
     let z = value_of(r, e, held, tally, words)?;
     if z != 0 {
@@ -177,8 +177,8 @@ fn turns(
 ) -> Result<(), RunFault>
     requires running { IsRunning r.now held.old }
     requires fits { Fine (r.now.kernel.now ∷ []) 0 r.now.kernel.now (Stmt.Repeat n (block_of text.now)) }
-    ensures runs { OnOk result (Runs r.now (stmt_items (Stmt.Repeat n (block_of text.now))) (λ st. st) (λ st. st) held.old tally.old words.old held.new tally.new words.new) }
-    ensures exceeds { OnErr result (Exceeds r.now (stmt_items (Stmt.Repeat n (block_of text.now))) (λ st. st) held.old tally.old words.old words.new) }
+    ensures runs { OnOk result (Runs r.now (stmt_items (Stmt.Repeat n (block_of text.now))) (λ st. st) (λ st. st) (here held.old tally.old words.old) (here held.new tally.new words.new)) }
+    ensures exceeds { OnErr result (Exceeds r.now (stmt_items (Stmt.Repeat n (block_of text.now))) (λ st. st) (here held.old tally.old words.old) words.new) }
 {
     for _ in 0..n {
         tally.walk()?;
@@ -200,8 +200,8 @@ fn rounds(
 ) -> Result<(), RunFault>
     requires running { IsRunning r.now held.old }
     requires fits { Fine (r.now.kernel.now ∷ []) 0 r.now.kernel.now (Stmt.While (expr_of e.now) n (block_of text.now)) }
-    ensures runs { OnOk result (Runs r.now (stmt_items (Stmt.While (expr_of e.now) n (block_of text.now))) (λ st. st) (λ st. st) held.old tally.old words.old held.new tally.new words.new) }
-    ensures exceeds { OnErr result (Exceeds r.now (stmt_items (Stmt.While (expr_of e.now) n (block_of text.now))) (λ st. st) held.old tally.old words.old words.new) }
+    ensures runs { OnOk result (Runs r.now (stmt_items (Stmt.While (expr_of e.now) n (block_of text.now))) (λ st. st) (λ st. st) (here held.old tally.old words.old) (here held.new tally.new words.new)) }
+    ensures exceeds { OnErr result (Exceeds r.now (stmt_items (Stmt.While (expr_of e.now) n (block_of text.now))) (λ st. st) (here held.old tally.old words.old) words.new) }
 {
     for _ in 0..n {
         let z = value_of(r, e, held, tally, words)?;
