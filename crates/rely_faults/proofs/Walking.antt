@@ -1,7 +1,7 @@
 -- How parts of a trial follow one another, and what each item does.
 use Rattle.std.proofs.Common.{◌≡◌, ℕ, zero, suc, ◌+◌, ◌<◌, ◌≤◌, ℤ, List, [], ◌∷◌, ◌++◌, length, get_or, Option, Some, None, Result, Ok, Err, OnErr, refl, sym, ap, subst, ◌∙◌, arith}
 use Rattle.std.specs.Prelude.{slice_set, sum_by, FitsSigned}
-use Rattle.std.specs.Option.{option_map_or}
+use Rattle.std.specs.Option.{unwrap_or}
 use Rattle.std.specs.Int.{w64}
 use Rattle.std.proofs.lemmas.List.Sums.{sum_by-append}
 use Rattle.rand_pcg.specs.Lcg.{Lcg}
@@ -155,7 +155,7 @@ module _ (r : Running) where
       (is : (more : List Item) (st : List ℤ) (store : Store) → moment (standing (i ∷ more) st store) ≡ Chance 0 l)
       (one : (more : List Item) (st : List ℤ) (store : Store) → cost rate fs (standing (i ∷ more) st store) ≡ 1) where
     chance_runs : (leaves : List ℤ → List ℤ) (p : ℕ) (right z : ℤ) (s' : Store) (t' : Counts) (g' : Lcg) → p ≡ rate l → Steps p right t g z t' g' → IsRunning r s'
-        → ((o : Option ℤ) (more : List Item) (st : List ℤ) → z ≡ option_map_or (λ n. n) o right → successor fs o (standing (i ∷ more) (f st) s) ≡ standing more (leaves st) s')
+        → ((o : Option ℤ) (more : List Item) (st : List ℤ) → z ≡ unwrap_or o right → successor fs o (standing (i ∷ more) (f st) s) ≡ standing more (leaves st) s')
         → Runs r (λ is. i ∷ is) f leaves (here s t g) (here s' t' g')
     chance_runs leaves p right z s' t' g' at steps h left = record {
       running = h;
@@ -174,28 +174,28 @@ module _ (r : Running) where
       pub read_runs : (v : ℕ) → p ≡ rate (label.Read v) → right ≡ top (cell s v) → IsRunning r s → Runs r (λ is. Read v ∷ is) (λ st. st) (λ st. z ∷ st) (here s t g) (here s t' g')
       read_runs v at same h = chance_runs (label.Read v) (Read v) (λ st. st) s t g (λ more st s. refl) (λ more st s. refl) (λ st. z ∷ st) p right z s t' g' at steps h leaves
         where
-          leaves : (o : Option ℤ) (more : List Item) (st : List ℤ) → z ≡ option_map_or (λ n. n) o right → successor fs o (standing (Read v ∷ more) st s) ≡ standing more (z ∷ st) s
+          leaves : (o : Option ℤ) (more : List Item) (st : List ℤ) → z ≡ unwrap_or o right → successor fs o (standing (Read v ∷ more) st s) ≡ standing more (z ∷ st) s
           leaves None more st e = ap (λ n. standing more (n ∷ st) s) (sym (e ∙ same))
           leaves (Some n) more st e = ap (λ n. standing more (n ∷ st) s) (sym e)
 
       pub elem_runs : (a : ℕ) (i : ℤ) → p ≡ rate (label.Read a) → right ≡ read_at (cell s a) i → IsRunning r s → Runs r (λ is. Elem a ∷ is) (λ st. i ∷ st) (λ st. z ∷ st) (here s t g) (here s t' g')
       elem_runs a i at same h = chance_runs (label.Read a) (Elem a) (λ st. i ∷ st) s t g (λ more st s. refl) (λ more st s. refl) (λ st. z ∷ st) p right z s t' g' at steps h leaves
         where
-          leaves : (o : Option ℤ) (more : List Item) (st : List ℤ) → z ≡ option_map_or (λ n. n) o right → successor fs o (standing (Elem a ∷ more) (i ∷ st) s) ≡ standing more (z ∷ st) s
+          leaves : (o : Option ℤ) (more : List Item) (st : List ℤ) → z ≡ unwrap_or o right → successor fs o (standing (Elem a ∷ more) (i ∷ st) s) ≡ standing more (z ∷ st) s
           leaves None more st e = ap (λ n. standing more (n ∷ st) s) (sym (e ∙ same))
           leaves (Some n) more st e = ap (λ n. standing more (n ∷ st) s) (sym e)
 
       pub op_runs : (site : ℕ) (x y : ℤ) → p ≡ rate (label.Op site) → right ≡ operated (operator fs 0 site) x y → IsRunning r s → Runs r (λ is. Op site ∷ is) (λ st. y ∷ x ∷ st) (λ st. z ∷ st) (here s t g) (here s t' g')
       op_runs site x y at same h = chance_runs (label.Op site) (Op site) (λ st. y ∷ x ∷ st) s t g (λ more st s. refl) (λ more st s. refl) (λ st. z ∷ st) p right z s t' g' at steps h leaves
         where
-          leaves : (o : Option ℤ) (more : List Item) (st : List ℤ) → z ≡ option_map_or (λ n. n) o right → successor fs o (standing (Op site ∷ more) (y ∷ x ∷ st) s) ≡ standing more (z ∷ st) s
+          leaves : (o : Option ℤ) (more : List Item) (st : List ℤ) → z ≡ unwrap_or o right → successor fs o (standing (Op site ∷ more) (y ∷ x ∷ st) s) ≡ standing more (z ∷ st) s
           leaves None more st e = ap (λ n. standing more (n ∷ st) s) (sym (e ∙ same))
           leaves (Some n) more st e = ap (λ n. standing more (n ∷ st) s) (sym e)
 
       pub write_runs : (v : ℕ) → p ≡ rate (label.Write v) → IsRunning r (with_cell s v (z ∷ [])) → Runs r (λ is. Write v ∷ is) (λ st. right ∷ st) (λ st. st) (here s t g) (here (with_cell s v (z ∷ [])) t' g')
       write_runs v at h = chance_runs (label.Write v) (Write v) (λ st. right ∷ st) s t g (λ more st s. refl) (λ more st s. refl) (λ st. st) p right z (with_cell s v (z ∷ [])) t' g' at steps h leaves
         where
-          leaves : (o : Option ℤ) (more : List Item) (st : List ℤ) → z ≡ option_map_or (λ n. n) o right → successor fs o (standing (Write v ∷ more) (right ∷ st) s) ≡ standing more st (with_cell s v (z ∷ []))
+          leaves : (o : Option ℤ) (more : List Item) (st : List ℤ) → z ≡ unwrap_or o right → successor fs o (standing (Write v ∷ more) (right ∷ st) s) ≡ standing more st (with_cell s v (z ∷ []))
           leaves None more st e = ap (λ n. standing more st (with_cell s v (n ∷ []))) (sym e)
           leaves (Some n) more st e = ap (λ n. standing more st (with_cell s v (n ∷ []))) (sym e)
 
@@ -203,7 +203,7 @@ module _ (r : Running) where
           → Runs r (λ is. WriteElem a ∷ is) (λ st. right ∷ i ∷ st) (λ st. st) (here s t g) (here (with_cell s a (written_at (cell s a) i z)) t' g')
       write_elem_runs a i at h = chance_runs (label.Write a) (WriteElem a) (λ st. right ∷ i ∷ st) s t g (λ more st s. refl) (λ more st s. refl) (λ st. st) p right z (with_cell s a (written_at (cell s a) i z)) t' g' at steps h leaves
         where
-          leaves : (o : Option ℤ) (more : List Item) (st : List ℤ) → z ≡ option_map_or (λ n. n) o right → successor fs o (standing (WriteElem a ∷ more) (right ∷ i ∷ st) s) ≡ standing more st (with_cell s a (written_at (cell s a) i z))
+          leaves : (o : Option ℤ) (more : List Item) (st : List ℤ) → z ≡ unwrap_or o right → successor fs o (standing (WriteElem a ∷ more) (right ∷ i ∷ st) s) ≡ standing more st (with_cell s a (written_at (cell s a) i z))
           leaves None more st e = ap (λ n. standing more st (with_cell s a (written_at (cell s a) i n))) (sym e)
           leaves (Some n) more st e = ap (λ n. standing more st (with_cell s a (written_at (cell s a) i n))) (sym e)
 
