@@ -1,3 +1,5 @@
+pub mod Acting
 pub mod Drawing
+pub mod Looping
 pub mod Values
 pub mod Walking
