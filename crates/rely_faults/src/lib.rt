@@ -3,14 +3,16 @@
 #![tactic(auto)]
 
 mod drawn;
-mod running;
-mod tally;
-mod seeded;
+mod laws;
 mod outcome;
+mod running;
+mod seeded;
+mod tally;
 mod walk;
 
-pub use seeded::trial;
+pub use laws::{each_step_follows, ends_or_passes, one_outcome, words_are_taken};
 pub use outcome::Tried;
+pub use seeded::trial;
 
 #[cfg(test)]
 mod tests;
