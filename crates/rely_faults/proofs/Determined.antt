@@ -87,12 +87,12 @@ module _ (k : Kernel) (h : Hardware) (t : Setting) (start : Store) (words : Lcg)
 
     agree : (o ≡ o') × (left ≡ left')
     agree = (
-        same_fields o o'
-            (a.store ∙ (ap (λ (x : Trying). x.config.store) ends ∙ sym b.store))
-            (a.steps ∙ (same_steps rate (k ∷ []) a.n b.n at_first (finished o left a) (finished o' left' b) ∙ sym b.steps))
-            (ap (λ (x : Trying). x.taken) ends),
-        ap (λ (x : Trying). x.words) ends,
-      )
+      same_fields o o'
+          (a.store ∙ (ap (λ (x : Trying). x.config.store) ends ∙ sym b.store))
+          (a.steps ∙ (same_steps rate (k ∷ []) a.n b.n at_first (finished o left a) (finished o' left' b) ∙ sym b.steps))
+          (ap (λ (x : Trying). x.taken) ends),
+      ap (λ (x : Trying). x.words) ends,
+    )
 
   below : (o : Tried) (left : Lcg) (limit : ℕ) → IsTried k h t start words o left → o.steps < limit → PassesLimit k h t start words limit → ⊥
   below o left limit a few many =

@@ -1,6 +1,5 @@
 -- What is drawn, by cases.
-use Rattle.std.proofs.Common.{◌≡◌, ◌≢◌, ℕ, ◌%◌, ◌<◌, ◌≤◌, Some, None, refl, sym, ap, ◌∙◌, of_z, to_z, cond, true, false}
-use Rattle.std.specs.Prelude.{◌==◌, nat_lt}
+use Rattle.std.proofs.Common.{◌≡◌, ◌≢◌, ℕ, ◌%◌, ◌<◌, ◌≤◌, Some, None, refl, sym, ap, ◌∙◌, of_z, to_z}
 use Rattle.std.specs.Int.{w64, cast_signed}
 use Rattle.std.proofs.lemmas.Bool.{lt-ltb, le-ltb}
 use Rattle.std.proofs.lemmas.Int.{to_z-of_z}
@@ -9,7 +8,7 @@ use Rattle.rand_pcg.specs.Lcg.{Lcg}
 use Rattle.rand_pcg.specs.Pcg.{pcg64}
 use Rattle.rely_num.specs.Bounds.{S}
 use Rattle.rely_machine.proofs.Counting.{differs}
-use Rattle.rely_faults.specs.Trial.{Draw, draw, no_word, one_word, two_words}
+use Rattle.rely_faults.specs.Trial.{draw, no_word, one_word, two_words}
 
 module _ (p : ℕ) (g : Lcg) where
   pub draws_none : p ≡ S → draw p g ≡ no_word g

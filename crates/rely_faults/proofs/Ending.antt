@@ -1,5 +1,5 @@
 -- How a trial begins and ends.
-use Rattle.std.proofs.Common.{◌≡◌, ℕ, suc, ◌≤◌, ◌<◌, ◌+◌, List, [], ◌∷◌, ◌++◌, length, refl, sym, ap, subst, ◌∙◌, arith}
+use Rattle.std.proofs.Common.{◌≡◌, ℕ, suc, List, [], ◌∷◌, ◌++◌, length, refl, sym, ap, subst, ◌∙◌, arith}
 use Rattle.std.specs.List.{AllByRecursion}
 use Rattle.rand_pcg.specs.Lcg.{Lcg}
 use Rattle.rely_kernel.specs.declared.kernel.Kernel.{Kernel}
@@ -13,7 +13,7 @@ use Rattle.rely_kernel.specs.Valid.{BlockFits, BodyFits, IsValid, PlaceFits, Stm
 use Rattle.rely_kernel.proofs.Fine.{AllFine, fine_body}
 use Rattle.rely_faults.specs.declared.outcome.Tried.{Tried}
 use Rattle.rely_faults.specs.declared.running.Running.{Running}
-use Rattle.rely_faults.specs.Going.{Counts, Ends, Exceeds, IsRunning, Point, Runs, Stands, here, standing}
+use Rattle.rely_faults.specs.Going.{Counts, Ends, Exceeds, IsRunning, Runs, Stands, here, standing}
 use Rattle.rely_faults.specs.Trial.{IsTried, LeavesWords, PassesLimit, StopsAt, Trying, first, tried_after, tried_through}
 
 -- ---- a kernel without a call place calls nothing
@@ -82,7 +82,7 @@ module _ (r : Running) (start : Store) (g : Lcg) (limit : ℕ) where
       ended : Ends r (first r.kernel.now start g) limit g'
       ended =
           let from_start : Exceeds r (items (block_of r.kernel.now.body)) (λ st. st) (here start (no_counts limit) g) g' =
-              rw (← t_is, ← held_is) (subst (λ ss. Exceeds r (items (block_of ss)) (λ st. st) (here held t g) g') body_is h) in
+          rw (← t_is, ← held_is) (subst (λ ss. Exceeds r (items (block_of ss)) (λ st. st) (here held t g) g') body_is h) in
           from_start.ends (first r.kernel.now start g) [] [] begins_at
 
       pub passes : PassesLimit r.kernel.now r.hardware.now r.setting.now start g limit
@@ -98,7 +98,7 @@ module _ (r : Running) (start : Store) (g : Lcg) (limit : ℕ) where
       at_end : Stands r (first r.kernel.now start g) (standing [] [] s) (here s u g')
       at_end =
           let from_start : Runs r (items (block_of r.kernel.now.body)) (λ st. st) (λ st. st) (here start (no_counts limit) g) (here s u g') =
-              rw (← t_is, ← held_is) (subst (λ ss. Runs r (items (block_of ss)) (λ st. st) (λ st. st) (here held t g) (here s u g')) body_is h) in
+          rw (← t_is, ← held_is) (subst (λ ss. Runs r (items (block_of ss)) (λ st. st) (λ st. st) (here held t g) (here s u g')) body_is h) in
           from_start.goes (first r.kernel.now start g) [] [] begins_at
 
       pub tried_is : (o : Tried) → o.store ≡ s → o.steps ≡ u.steps → o.words ≡ u.taken → IsTried r.kernel.now r.hardware.now r.setting.now start g o g'

@@ -1,8 +1,7 @@
 -- Each step of a trial is the right one or a wrong one.
-use Rattle.std.proofs.Common.{◌≡◌, ◌≢◌, ℕ, zero, suc, ◌+◌, ◌⊎◌, ℤ, List, [], ◌∷◌, length, get_or, drop, Option, Some, None, inl, inr, refl, sym, ap, subst, ◌∙◌, arith}
+use Rattle.std.proofs.Common.{◌≡◌, ◌≢◌, ℕ, zero, suc, ◌+◌, ℤ, List, [], ◌∷◌, length, get_or, drop, Option, Some, None, inl, inr, refl, sym, ap, subst, ◌∙◌, arith}
 use Rattle.std.specs.Prelude.{slice_set}
 use Rattle.std.proofs.lemmas.List.Elements.{All-from_recursion}
-use Rattle.rely_hard.specs.declared.hardware.Hardware.{Hardware}
 use Rattle.rely_kernel.specs.declared.kernel.Kernel.{Kernel}
 use Rattle.rely_kernel.specs.declared.label.Label.{Label}
 use Rattle.rely_kernel.specs.declared.setting.Store.{Store}
@@ -14,7 +13,7 @@ use Rattle.rely_kernel.specs.Text.{block_of}
 use Rattle.rely_kernel.specs.Valid.{IsValid}
 use Rattle.rely_kernel.specs.Wrong.{WrongBy}
 use Rattle.rely_kernel.proofs.Fine.{written_fits, written_long}
-use Rattle.rely_kernel.proofs.Numbers.{All-fit, Fits}
+use Rattle.rely_kernel.proofs.Numbers.{Fits}
 use Rattle.rely_kernel.proofs.Shape.{cell_fits}
 use Rattle.rely_faults.specs.Laws.{EachStepFollows, Follows}
 use Rattle.rely_faults.specs.Trial.{Trying, draw, first, successor, tried, tried_after, tried_by, wrong_by}
@@ -53,10 +52,12 @@ module _ (k : Kernel) (c : Config) (shape : HasShape k c.store) (z : ℤ) (fits 
       let d : Config = right_by (fs k) (WriteElem a ∷ rest) c in
       let old = cell c.store a in
       let i = top (drop 1 c.stack) in
-      let kept = written_at old i (top c.stack) in
-      (written_at old i z, All-from_recursion Fits (written_at old i z) (written_fits old i z (cell_fits k c.store a shape) fits),
-          written_long old i z ∙ sym (as_long c.store.cells a kept (written_long old i (top c.stack))),
-          ap (λ (s : Store). record d { store = s }) (cell_twice c.store a kept (written_at old i z)))
+      let kept = written_at old i (top c.stack) in (
+        written_at old i z,
+        All-from_recursion Fits (written_at old i z) (written_fits old i z (cell_fits k c.store a shape) fits),
+        written_long old i z ∙ sym (as_long c.store.cells a kept (written_long old i (top c.stack))),
+        ap (λ (s : Store). record d { store = s }) (cell_twice c.store a kept (written_at old i z)),
+      )
   is_wrong_by (Result ∷ rest) f g l e = absurd (cc)
   is_wrong_by (Choose x y ∷ rest) f g l e = absurd (cc)
   is_wrong_by (While e2 n x ∷ rest) f g l e = absurd (cc)

@@ -1,28 +1,21 @@
 -- What a step leaves is numbers of 64 bits in a store of the kernel's shape, and items that keep them so.
-use Rattle.std.proofs.Common.{◌≡◌, ℕ, zero, suc, ◌+◌, ℤ, pos, negsuc, Bool, true, false, List, [], ◌∷◌, length, drop, get_or, Option, Some, None, inl, inr, refl, sym, ap, subst, ◌∙◌, arith}
-use Rattle.std.specs.Prelude.{slice_set, IsTrue, FitsSigned, if◌then◌else◌, nat_lt, ◌==◌, ◌%◌}
-use Rattle.std.specs.Int.{w64, cast_signed}
+use Rattle.std.proofs.Common.{◌≡◌, ℕ, zero, suc, ℤ, pos, negsuc, Bool, true, false, List, [], ◌∷◌, drop, Some, subst, arith}
+use Rattle.std.specs.Prelude.{IsTrue, if◌then◌else◌, nat_lt, ◌==◌, ◌%◌}
+use Rattle.std.specs.Int.{w64}
 use Rattle.std.specs.List.{AllByRecursion}
 use borrow.Author.Gap.{read_sfits}
 use Rattle.rand_pcg.specs.Lcg.{Lcg}
 use Rattle.rand_pcg.specs.Pcg.{pcg64}
 use Rattle.rely_num.specs.Bounds.{S}
 use Rattle.rely_kernel.specs.declared.kernel.Kernel.{Kernel}
-use Rattle.rely_kernel.specs.declared.label.Label.{Label}
-use Rattle.rely_kernel.specs.declared.setting.Store.{Store}
-use Rattle.rely_kernel.specs.Bound.{HasShape, IsStart}
-use Rattle.rely_kernel.specs.Machine.{Config, Item, Push, Read, Elem, Op, Write, WriteElem, Result, Choose, While, Repeat, Enter, Call, Leave, Moment, Over, Exact, Chance, act, cell, chosen, expr_items, items, moment, moment_of, operator, right, right_by, stmt_items, top, with_cell}
-use Rattle.rely_kernel.specs.Meaning.{read_at, written_at}
-use Rattle.rely_kernel.specs.Rates.{right_of}
-use Rattle.rely_kernel.specs.Text.{Expr, Stmt, Block, done, ◌then◌, append, block_of}
+use Rattle.rely_kernel.specs.Bound.{HasShape}
+use Rattle.rely_kernel.specs.Machine.{Config, Item, Push, Read, Elem, Op, Write, WriteElem, Result, Choose, While, Repeat, Enter, Call, Leave, act, cell, chosen, expr_items, items, operator, right_by, stmt_items, top}
+use Rattle.rely_kernel.specs.Text.{Expr, Stmt, Block, done, ◌then◌, append}
 use Rattle.rely_kernel.specs.Valid.{ExprFits, is_scalar}
-use Rattle.rely_kernel.specs.Wrong.{IsWrong, WrongBy}
 use Rattle.rely_kernel.proofs.Fine.{AllFine, Fine, shape_write}
 use Rattle.rely_kernel.proofs.Numbers.{All-fit, Fits, fits_at, fits_operated, fits_read}
 use Rattle.rely_kernel.proofs.Shape.{cell_fits, shape_give, shape_put, top_fits}
-use Rattle.rely_faults.specs.Trial.{Draw, Trying, draw, first, no_word, one_word, successor, tried, tried_after, tried_by, two_words, wrong, wrong_by}
-use Rattle.rely_faults.proofs.Ending.{alone_fine}
-use Rattle.rely_faults.proofs.Walking.{after_more}
+use Rattle.rely_faults.specs.Trial.{draw, no_word, one_word, two_words, wrong_by}
 
 -- ---- a number that is drawn
 

@@ -6,5 +6,6 @@ pub mod Following
 pub mod Keeping
 pub mod Looping
 pub mod Taking
+pub mod Tested
 pub mod Values
 pub mod Walking

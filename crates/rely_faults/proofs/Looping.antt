@@ -1,9 +1,8 @@
 -- What choices, loops and blocks take.
-use Rattle.std.proofs.Common.{◌≡◌, ◌≢◌, ℕ, zero, suc, ◌+◌, ◌≤◌, ℤ, pos, negsuc, List, ◌∷◌, take, drop, Some, refl, sym, subst, ◌∙◌, arith}
+use Rattle.std.proofs.Common.{◌≡◌, ◌≢◌, ℕ, zero, suc, ◌+◌, ℤ, pos, negsuc, List, ◌∷◌, take, drop, Some, refl, sym, subst, ◌∙◌, arith}
 use Rattle.std.specs.Prelude.{slice_get}
 use Rattle.rand_pcg.specs.Lcg.{Lcg}
 use Rattle.rely_kernel.specs.declared.kernel.St.{St}
-use Rattle.rely_kernel.specs.declared.setting.Store.{Store}
 use Rattle.rely_kernel.specs.Machine.{Item, Choose, While, Repeat, Enter, items, expr_items, stmt_items}
 use Rattle.rely_kernel.specs.Text.{Expr, Stmt, Block, done, ◌then◌, append, block_of, stmt_of}
 use Rattle.rely_kernel.proofs.Skip.{items-append}

@@ -1,5 +1,5 @@
 -- A trial takes the generator's next words, as many as it counts.
-use Rattle.std.proofs.Common.{◌≡◌, ℕ, zero, suc, ◌+◌, ◌%◌, Bool, true, false, List, [], ◌∷◌, refl, sym, ap, ◌∙◌, arith}
+use Rattle.std.proofs.Common.{◌≡◌, ℕ, zero, suc, ◌+◌, ◌%◌, Bool, true, false, List, [], ◌∷◌, sym, ap, ◌∙◌, arith}
 use Rattle.std.specs.Prelude.{if◌then◌else◌, nat_lt, ◌==◌}
 use Rattle.rand_pcg.specs.Lcg.{Lcg, advance, next}
 use Rattle.rand_pcg.specs.Pcg.{multiplier_128, pcg64}
@@ -10,7 +10,7 @@ use Rattle.rely_kernel.specs.declared.label.Label.{Label}
 use Rattle.rely_kernel.specs.Machine.{Moment, Over, Exact, Chance, moment}
 use Rattle.rely_kernel.specs.Rates.{right_of}
 use Rattle.rely_faults.specs.Laws.{WordsAreTaken}
-use Rattle.rely_faults.specs.Trial.{Draw, Trying, draw, first, no_word, one_word, tried, tried_after, tried_by, two_words}
+use Rattle.rely_faults.specs.Trial.{Trying, draw, first, no_word, one_word, tried, tried_after, tried_by, two_words}
 
 -- the generator after n words
 abbrev behind : ℕ → Lcg → Lcg

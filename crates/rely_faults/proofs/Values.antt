@@ -1,19 +1,19 @@
 -- What the value of an expression takes, by the form of the expression.
-use Rattle.std.proofs.Common.{◌≡◌, ℕ, ◌<◌, ℤ, List, [], ◌∷◌, Some, length, ap, subst, sym, ◌∙◌, IsTrue}
+use Rattle.std.proofs.Common.{◌≡◌, ℕ, ◌<◌, ℤ, ◌∷◌, Some, length, ap, subst, sym, ◌∙◌, IsTrue}
 use Rattle.std.specs.Prelude.{slice_get, option_map}
 use Rattle.rand_pcg.specs.Lcg.{Lcg}
 use Rattle.rely_num.specs.declared.op.Op.{Op as Operator}
 use Rattle.rely_kernel.specs.declared.label.Label.TheVariants as label
 use Rattle.rely_kernel.specs.declared.setting.Store.{Store}
-use Rattle.rely_kernel.specs.Machine.{Elem, Op, cell, expr_items, operated, operator, top}
+use Rattle.rely_kernel.specs.Machine.{Elem, Op, cell, expr_items, operated, top}
 use Rattle.rely_kernel.specs.Meaning.{read_at, value}
 use Rattle.rely_kernel.specs.Text.{Expr}
 use Rattle.rely_kernel.specs.Valid.{ExprFits, is_array, is_scalar}
 use Rattle.rely_kernel.proofs.Shape.{array_below, scalar_below}
 use Rattle.rely_machine.proofs.Reading.{array_there, scalar_long}
 use Rattle.rely_faults.specs.declared.running.Running.{Running}
-use Rattle.rely_faults.specs.Going.{Counts, Exceeds, IsFull, IsRunning, Point, Runs, Steps, here}
-use Rattle.rely_faults.proofs.Walking.{and_then, elem_exceeds, elem_runs, exceeds_first, exceeds_over, exceeds_then, fs, op_exceeds, op_runs, over, push_runs, rate, read_exceeds, read_runs}
+use Rattle.rely_faults.specs.Going.{Counts, Exceeds, IsFull, IsRunning, Runs, Steps, here}
+use Rattle.rely_faults.proofs.Walking.{and_then, elem_exceeds, elem_runs, exceeds_first, exceeds_over, exceeds_then, op_exceeds, op_runs, over, push_runs, rate, read_exceeds, read_runs}
 
 module _ (r : Running) (s : Store) (t : Counts) (g : Lcg) (running : IsRunning r s) (e : Expr) (fits : ExprFits r.kernel.now e) where
   pub num_goes : {w : ℤ} (z : ℤ) → e ≡ Expr.Num z → w ≡ z → Runs r (expr_items e) (λ st. st) (λ st. w ∷ st) (here s t g) (here s t g)

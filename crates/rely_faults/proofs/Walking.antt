@@ -1,21 +1,19 @@
 -- How parts of a trial follow one another, and what each item does.
-use Rattle.std.proofs.Common.{◌≡◌, ℕ, zero, suc, ◌+◌, ◌<◌, ◌≤◌, ℤ, List, [], ◌∷◌, ◌++◌, length, get_or, Option, Some, None, Result, Ok, Err, OnErr, refl, sym, ap, subst, ◌∙◌, arith}
-use Rattle.std.specs.Prelude.{slice_set, sum_by, FitsSigned}
+use Rattle.std.proofs.Common.{◌≡◌, ℕ, zero, suc, ◌+◌, ℤ, List, [], ◌∷◌, ◌++◌, Option, Some, None, Result, Ok, Err, OnErr, refl, sym, ap, subst, ◌∙◌, arith}
+use Rattle.std.specs.Prelude.{sum_by}
 use Rattle.std.specs.Option.{unwrap_or}
-use Rattle.std.specs.Int.{w64}
 use Rattle.std.proofs.lemmas.List.Sums.{sum_by-append}
 use Rattle.rand_pcg.specs.Lcg.{Lcg}
 use Rattle.rely_kernel.specs.declared.kernel.Kernel.{Kernel}
 use Rattle.rely_kernel.specs.declared.label.Label.{Label}
 use Rattle.rely_kernel.specs.declared.label.Label.TheVariants as label
 use Rattle.rely_kernel.specs.declared.setting.Store.{Store}
-use Rattle.rely_kernel.specs.Bound.{HasShape}
-use Rattle.rely_kernel.specs.Machine.{Config, Item, Push, Read, Elem, Op, Write, WriteElem, Result as Give, Enter, Moment, Chance, cell, cost_of, moment, operated, operator, right, top, with_cell}
+use Rattle.rely_kernel.specs.Machine.{Config, Item, Push, Read, Elem, Op, Write, WriteElem, Result as Give, Enter, Chance, cell, cost_of, moment, operated, operator, right, top, with_cell}
 use Rattle.rely_kernel.specs.Meaning.{read_at, written_at}
 use Rattle.rely_kernel.specs.Rates.{right_of}
 use Rattle.rely_faults.specs.declared.running.Running.{Running}
 use Rattle.rely_faults.specs.Going.{Counts, Ends, Exceeds, IsFull, IsRunning, Point, Runs, Stands, Steps, here, left_by, standing, with_step}
-use Rattle.rely_faults.specs.Trial.{Draw, Trying, draw, successor, tried, tried_after, tried_by, tried_steps, tried_through}
+use Rattle.rely_faults.specs.Trial.{Trying, draw, successor, tried, tried_after, tried_by, tried_steps, tried_through}
 
 -- an error whatever it is
 pub on_err : {T E Q : Type 0} (r : Result T E) → Q → OnErr r Q

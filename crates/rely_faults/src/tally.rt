@@ -58,12 +58,7 @@ impl Tally {
     }
 
     /// A chance step of that reliability: what it leaves where `right` is the right number.
-    pub fn step(
-        &mut self,
-        p: Atto,
-        right: i64,
-        words: &mut Lcg128Xsl64,
-    ) -> Result<i64, RunFault>
+    pub fn step(&mut self, p: Atto, right: i64, words: &mut Lcg128Xsl64) -> Result<i64, RunFault>
         ensures ok { IfOk result (λ z. Steps p right self.old words.old z self.new words.new) }
         ensures full { OnErr result (IsFull self.old) }
         ensures untaken { OnErr result (words.new ≡ words.old) }

@@ -1,4 +1,4 @@
-ghost use Rattle.std.specs.Prelude.{◌≡◌, [], ◌∷◌, None, IfOk, pos};
+ghost use Rattle.std.specs.Prelude.{◌≡◌, [], ◌∷◌, None, IfOk, pos, true};
 ghost use Rattle.rely_kernel.specs.Bound.{IsStart};
 ghost use Rattle.rely_kernel.specs.Text.{Expr, Stmt, done, ◌then◌, block_of};
 ghost use Rattle.rely_kernel.specs.Valid.{IsValid};
@@ -17,7 +17,8 @@ use std::test::Fail;
 const NONE: Span = Span { from: 0, to: 0 };
 
 // The second kind of `+` is always wrong; reads and writes are always right.
-const HARDWARE: &[u8] = b"{\"base\":\"0.999\",\"operators\":[{\"op\":\"+\",\"kinds\":[{\"name\":\"exact\",\"right\":\"1\",\"energy\":1},{\"name\":\"never\",\"right\":\"0\",\"energy\":1}]}],\"memories\":[{\"name\":\"exact\",\"read\":\"1\",\"write\":\"1\",\"read_energy\":1,\"write_energy\":1,\"hold\":1}]}";
+const HARDWARE: &[u8] =
+    b"{\"base\":\"0.999\",\"operators\":[{\"op\":\"+\",\"kinds\":[{\"name\":\"exact\",\"right\":\"1\",\"energy\":1},{\"name\":\"never\",\"right\":\"0\",\"energy\":1}]}],\"memories\":[{\"name\":\"exact\",\"read\":\"1\",\"write\":\"1\",\"read_energy\":1,\"write_energy\":1,\"hold\":1}]}";
 
 fn one<T: Drop>(alloc: Global, x: T) -> Result<List<T>, AllocError>
     ensures { IfOk result (λ l. l ≡ x ∷ []) }

@@ -1,4 +1,4 @@
-use Rattle.std.proofs.Common.{◌≡◌, Some, sym, ap, ◌∙◌, to_z, of_z, w64}
+use Rattle.std.proofs.Common.{Some, sym, ap, ◌∙◌, to_z, of_z, w64}
 use Rattle.std.proofs.lemmas.Bool.{eqb-true, eqb-false}
 use Rattle.rely_num.specs.Bounds.{S}
 use Rattle.rely_faults.specs.Trial.{Draw}

@@ -18,7 +18,7 @@ pub block-loop-s-init : goal.block-loop-s-init
 block-loop-s-init t c = nothing c.args.r.now (λ st. st) (here c.args.held.now c.args.tally.now c.args.words.now) c.requires.running
 
 pub block-statement-requires : goal.block-statement-requires
-block-statement-requires t c = 
+block-statement-requires t c =
     let at = (slice_get_read c.args.text.now (length c.args.text.now) c.loop-s.s-index c.s-item.result refl c.loop-s-test.true c.s-item.is) in
     let smaller = stmt_smaller c.args.text.now c.loop-s.s-index c.s-item.result at in
     let d = c.decreases in
@@ -109,7 +109,7 @@ pub turns-returns-clause-runs : goal.turns-returns-clause-runs
 turns-returns-clause-runs t c = turns_end c.args.r.now (λ is. Repeat c.args.n (block_of c.args.text.now) ∷ is) (block_of c.args.text.now) (here c.args.held.now c.args.tally.now c.args.words.now) (here c.loop.held c.loop.tally c.loop.words) (c.args.n - c.loop.counter) (omega (arith, c.loop-test.false)) c.loop.invariant
 
 pub statement-choose-requires : goal.statement-choose-requires
-statement-choose-requires t c = 
+statement-choose-requires t c =
     let e = ap stmt_size (ap stmt_of c.in-If.is ∙ text-If c.in-If.e c.in-If.s c.in-If.t) in
     let a = ap (λ ss. block_size (block_of ss)) c.as_slice.ensures in
     let b = ap (λ ss. block_size (block_of ss)) c.as_slice-in-If.ensures in
@@ -117,14 +117,14 @@ statement-choose-requires t c =
     (omega (arith, d, e, a, b), (c.requires.running, rw (c.as_slice.ensures, c.as_slice-in-If.ensures) (subst (Fine (c.args.r.now.kernel.now ∷ []) 0 c.args.r.now.kernel.now) (ap stmt_of c.in-If.is ∙ text-If c.in-If.e c.in-If.s c.in-If.t) c.requires.fits)))
 
 pub statement-rounds-requires : goal.statement-rounds-requires
-statement-rounds-requires t c = 
+statement-rounds-requires t c =
     let e = ap stmt_size (ap stmt_of c.in-While.is ∙ text-While c.in-While.e c.in-While.n c.in-While.s) in
     let a = ap (λ ss. block_size (block_of ss)) c.as_slice-in-While.ensures in
     let d = c.decreases in
     (omega (arith, d, e, a), (c.requires.running, rw c.as_slice-in-While.ensures (subst (Fine (c.args.r.now.kernel.now ∷ []) 0 c.args.r.now.kernel.now) (ap stmt_of c.in-While.is ∙ text-While c.in-While.e c.in-While.n c.in-While.s) c.requires.fits)))
 
 pub statement-turns-requires : goal.statement-turns-requires
-statement-turns-requires t c = 
+statement-turns-requires t c =
     let e = ap stmt_size (ap stmt_of c.in-Repeat.is ∙ text-Repeat c.in-Repeat.n c.in-Repeat.s) in
     let a = ap (λ ss. block_size (block_of ss)) c.as_slice-in-Repeat.ensures in
     let d = c.decreases in
