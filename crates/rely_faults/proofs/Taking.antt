@@ -56,7 +56,4 @@ module _ (p : Label → ℕ) (fs : List Kernel) (g : Lcg) where
   behind_after (suc n) x e = behind_after n (tried p fs x) (behind_by (moment x.config) x e)
 
 pub words_are_taken : WordsAreTaken
-words_are_taken k h t start words left o j =
-    ap (λ (x : Trying). x.words) (sym j.leads)
-    ∙ (behind_after (right_of h k t) (k ∷ []) words j.n (first k start words) (sym (behind_none words))
-    ∙ ap (λ (x : Trying). behind x.taken words) j.leads)
+words_are_taken k h t start words n = behind_after (right_of h k t) (k ∷ []) words n (first k start words) (sym (behind_none words))

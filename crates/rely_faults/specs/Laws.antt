@@ -11,27 +11,27 @@ use Rattle.rely_kernel.specs.Machine.{Config, right}
 use Rattle.rely_kernel.specs.Valid.{IsValid}
 use Rattle.rely_kernel.specs.Wrong.{IsWrong}
 use Rattle.rely_faults.specs.declared.outcome.Tried.{Tried}
-use Rattle.rely_faults.specs.Trial.{IsTried, PassesLimit, first, trial_after}
+use Rattle.rely_faults.specs.Trial.{IsTried, PassesLimit, Trying, first, trial_after}
 
 -- d follows c by the right step, or by a wrong one
 abbrev pub Follows : Kernel → Config → Config → Type 0
 Follows k c d = (d ≡ right (k ∷ []) c) ⊎ IsWrong (k ∷ []) c d
 
--- the configuration of a trial after n steps
-abbrev pub stands_at : Kernel → Hardware → Setting → Store → Lcg → ℕ → Config
-stands_at k h t start words n = (trial_after k h t n (first k start words)).config
+-- where a trial stands after n steps
+abbrev pub tries : Kernel → Hardware → Setting → Store → Lcg → ℕ → Trying
+tries k h t start words n = trial_after k h t n (first k start words)
 
 -- each step from a start is right or wrong as the machine has it
 abbrev pub EachStepFollows : Type 0
 EachStepFollows =
     (k : Kernel) (h : Hardware) (t : Setting) (start : Store) (words : Lcg) (n : ℕ) → IsValid k → k.calls ≡ [] → IsStart k start
-    → Follows k (stands_at k h t start words n) (stands_at k h t start words (n + 1))
+    → Follows k (tries k h t start words n).config (tries k h t start words (n + 1)).config
 
--- the words that are taken are the generator's next ones
+-- at each moment the words that were taken are the generator's next ones, and it stands behind them
 abbrev pub WordsAreTaken : Type 0
 WordsAreTaken =
-    (k : Kernel) (h : Hardware) (t : Setting) (start : Store) (words left : Lcg) (o : Tried)
-    → IsTried k h t start words o left → left ≡ advance 128 multiplier_128 o.words words
+    (k : Kernel) (h : Hardware) (t : Setting) (start : Store) (words : Lcg) (n : ℕ)
+    → (tries k h t start words n).words ≡ advance 128 multiplier_128 (tries k h t start words n).taken words
 
 -- a trial has one outcome, and leaves one generator
 abbrev pub OneOutcome : Type 0

@@ -5,7 +5,7 @@ pub fn each_step_follows()
     ensures { EachStepFollows }
 {}
 
-/// A law and no work: a trial takes the generator's next words, as many as it counts, and leaves it behind them.
+/// A law and no work: a trial takes the generator's next words, as many as it counts, and stands behind them at each step.
 pub fn words_are_taken()
     ensures { WordsAreTaken }
 {}

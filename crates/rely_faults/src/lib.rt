@@ -1,5 +1,5 @@
 //! A trial: a run of a kernel that calls nothing, in which each chance step is right or wrong by the words of a generator.
-//! The layers above use `trial` beside the reliable run of the same sample.
+//! The layers above use `trial` beside the reliable run of the same sample, and the laws that its outcome is one.
 #![tactic(auto)]
 
 mod drawn;

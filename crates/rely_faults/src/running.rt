@@ -16,12 +16,14 @@ pub struct Running<'k> {
 }
 
 impl Running<'_> {
+    /// The kernel's text.
     pub fn body(&self) -> &[St]
         ensures { result.now ≡ self.now.kernel.now.body }
     {
         self.kernel.body.as_slice()
     }
 
+    /// The operator of a site.
     pub fn operator(&self, site: u32) -> Op
         requires { site < length self.now.kernel.now.sites }
         ensures { option_map (λ s. s.op) (slice_get self.now.kernel.now.sites site) ≡ Some result }

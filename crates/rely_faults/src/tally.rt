@@ -69,6 +69,7 @@ impl Tally {
         Ok(drawn.wrong.unwrap_or(right))
     }
 
+    /// How many steps were taken.
     pub fn steps(&self) -> u64
         ensures is { result ≡ self.now.steps }
         ensures below { result < self.now.limit }
@@ -76,6 +77,7 @@ impl Tally {
         self.steps
     }
 
+    /// How many words these took.
     pub fn words(&self) -> u64
         ensures { result ≡ self.now.taken }
     {

@@ -118,7 +118,7 @@ pub fn block(
     Ok(())
 }
 
-// The kernel calls nothing, so a call does nothing here.
+// The kernel calls nothing, so no call is met.
 #[cycle(text)]
 fn statement(
     r: &Running,
