@@ -1,0 +1,11 @@
+pub mod Acting
+pub mod Determined
+pub mod Drawing
+pub mod Ending
+pub mod Following
+pub mod Keeping
+pub mod Looping
+pub mod Taking
+pub mod Tested
+pub mod Values
+pub mod Walking
