@@ -21,8 +21,9 @@ use Rattle.chisel_top.specs.declared.status.Status.{Status}
 use Rattle.chisel_top.specs.declared.status.Status.TheVariants as status
 use Rattle.chisel_top.specs.Answer.{Both, IsAnswer, OneAnswer, printed_status, printed_text}
 use Rattle.chisel_top.specs.Findings.{NoForm, Unread, TooLong, Refused, Judging, Running}
-use Rattle.chisel_top.specs.Lines.{length_line, read_line, refusal_line, steps_line, words_line}
-use Rattle.chisel_top.specs.Simulations.{RunsPass, RunsTell, Takes, energy_line, sample_lines}
+use Rattle.chisel_lines.specs.Lines.{length_line, read_line, refusal_line, steps_line, words_line}
+use Rattle.chisel_lines.specs.SampleLines.{energy_line, sample_lines}
+use Rattle.chisel_top.specs.Simulations.{RunsPass, RunsTell, Takes}
 use Rattle.chisel_top.specs.Verdicts.{judged}
 
 -- ---- costs

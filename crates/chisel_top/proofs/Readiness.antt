@@ -25,14 +25,14 @@ use Rattle.rely_kernel.specs.Valid.{IsValid}
 use Rattle.rely_resolve.specs.Limits.{IsUnit}
 use Rattle.rely_resolve.specs.Linked.{linked_of}
 use Rattle.rely_resolve.specs.declared.fault.NameFault.{NameFault}
-use Rattle.chisel_top.specs.declared.fault.Refusal.{Refusal}
-use Rattle.chisel_top.specs.declared.fault.Refusal.TheVariants as refusal
+use Rattle.chisel_lines.specs.declared.refusal.Refusal.{Refusal}
+use Rattle.chisel_lines.specs.declared.refusal.Refusal.TheVariants as refusal
 use Rattle.chisel_top.specs.declared.ready.Meant.{Meant}
 use Rattle.chisel_top.specs.declared.ready.Ready.{Ready}
 use Rattle.chisel_top.specs.Findings.{Files, Finding, TooLong, ◌>>=◌, asked, earlier, either, finding, found_by, longest, longest_inputs, meant_in, meant_of, open_place, open_place_in, opened, ready_by, ready_of, refused_by, starts_in, unit_in, unless_open}
 use Rattle.chisel_top.specs.Promises.{AcceptedHold, OnJudged, UndecidedNear}
 use Rattle.chisel_top.specs.Steps.{AreSound, IsMeant, IsReady}
-use Rattle.chisel_top.specs.Words.{Command, ToVerify, ToRun, form}
+use Rattle.chisel_words.specs.Words.{Command, ToVerify, ToRun, form}
 use Rattle.chisel_top.proofs.Headline.{accepted_hold, undecided_near}
 use Rattle.chisel_top.proofs.ParsedUnits.{parsed_unit}
 use Rattle.rely_resolve.proofs.ValidLinked.{linked_valid, linked_on}

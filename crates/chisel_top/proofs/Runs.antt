@@ -14,13 +14,13 @@ use Rattle.chisel_top.specs.declared.status.Status.{Status}
 use Rattle.chisel_top.specs.declared.status.Status.TheVariants as status
 use Rattle.chisel_top.specs.Answer.{IsAnswer, printed_status}
 use Rattle.chisel_top.specs.Findings.{Files, Finding, NoForm, Unread, TooLong, Refused, Judging, Running, finding}
-use Rattle.chisel_top.specs.Lines.{read_line, memory_line}
+use Rattle.chisel_lines.specs.Lines.{read_line, memory_line}
 use Rattle.chisel_top.specs.Promises.{Tells, Wrote, WroteFront, Counts, FailedLast, FetchesInOrder, IsCause, IsOwed, EndsWithoutForm, IsReport, JudgedAs, is_marked, outcome_text, outcome_status}
 use Rattle.chisel_top.specs.Statuses.{IsFree}
 use Rattle.chisel_top.specs.Steps.{Agrees, IsAsked, IsForm, IsGrade, Marks, Fetching}
 use Rattle.chisel_top.specs.Telling.{Delivers}
 use Rattle.chisel_top.specs.Verdicts.{judged, status_on, is_refused, is_undecided}
-use Rattle.chisel_top.specs.Words.{Command, form, files_of}
+use Rattle.chisel_words.specs.Words.{Command, form, files_of}
 
 -- ---- statuses
 

@@ -5,7 +5,7 @@ use Rattle.rely_precond.specs.declared.fault.PreFault.{PreFault}
 use Rattle.chisel_top.specs.declared.status.Status.{Status}
 use Rattle.chisel_top.specs.declared.status.Status.TheVariants as status
 use Rattle.chisel_top.specs.Findings.{Finding, NoForm, Unread, TooLong, Refused, Judging, Running}
-use Rattle.chisel_top.specs.Lines.{words_line, read_line, length_line, refusal_line, walk_line, steps_line}
+use Rattle.chisel_lines.specs.Lines.{words_line, read_line, length_line, refusal_line, walk_line, steps_line}
 use Rattle.chisel_top.specs.Simulations.{RunsTell, RunsPass}
 use Rattle.chisel_top.specs.Verdicts.{judged, status_on}
 use Rattle.chisel_top.specs.declared.printed.Printed.{Printed}

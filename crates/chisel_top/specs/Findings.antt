@@ -15,9 +15,9 @@ use Rattle.rely_resolve.specs.Linked.{linked_of}
 use Rattle.rely_inputs.specs.Samples.{samples_of}
 use Rattle.chisel_top.specs.declared.ready.Meant.{Meant}
 use Rattle.chisel_top.specs.declared.ready.Ready.{Ready}
-use Rattle.chisel_top.specs.declared.fault.Refusal.{Refusal}
-use Rattle.chisel_top.specs.declared.fault.Refusal.TheVariants as refusal
-use Rattle.chisel_top.specs.Words.{Command, ToVerify, ToRun, form}
+use Rattle.chisel_lines.specs.declared.refusal.Refusal.{Refusal}
+use Rattle.chisel_lines.specs.declared.refusal.Refusal.TheVariants as refusal
+use Rattle.chisel_words.specs.Words.{Command, ToVerify, ToRun, form}
 
 -- the files by name: their bytes, or none where there is no such file
 abbrev pub Files : Type 0

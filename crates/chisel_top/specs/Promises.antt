@@ -18,18 +18,18 @@ use Rattle.rely_verdict.specs.declared.verdict.Verdict.TheVariants.{Accepted}
 use Rattle.chisel_top.specs.declared.fault.Fault.{Fault}
 use Rattle.chisel_top.specs.declared.fault.Fault.TheVariants as fault
 use Rattle.chisel_top.specs.declared.ready.Ready.{Ready}
-use Rattle.chisel_top.specs.declared.fault.Refusal.{Refusal}
+use Rattle.chisel_lines.specs.declared.refusal.Refusal.{Refusal}
 use Rattle.chisel_top.specs.declared.fault.Written.{Written}
 use Rattle.chisel_top.specs.declared.status.Status.{Status}
 use Rattle.chisel_top.specs.declared.status.Status.TheVariants as status
 use Rattle.chisel_top.specs.Answer.{IsAnswer}
 use Rattle.chisel_top.specs.Findings.{Files, Finding, NoForm, TooLong, Refused, Judging, Running, finding}
-use Rattle.chisel_top.specs.Lines.{words_line, read_line, length_line, memory_line, refusal_line, walk_line, steps_line}
+use Rattle.chisel_lines.specs.Lines.{words_line, read_line, length_line, memory_line, refusal_line, walk_line, steps_line}
 use Rattle.chisel_top.specs.Simulations.{RunsTell, RunsPass}
 use Rattle.chisel_top.specs.Verdicts.{callees_after, judged, status_on, verdict_on}
 use Rattle.chisel_top.specs.declared.printed.Callees.TheVariants.{AllAccepted}
 use Rattle.chisel_top.specs.declared.printed.Printed.{Printed}
-use Rattle.chisel_top.specs.Words.{form, files_of}
+use Rattle.chisel_words.specs.Words.{form, files_of}
 
 -- ---- the outside
 

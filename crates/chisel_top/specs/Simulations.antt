@@ -1,6 +1,5 @@
--- The lines of the reliable runs of a function, and of their energy.
-use Rattle.std.specs.Prelude.{ℕ, ◌≡◌, ◌+◌, ◌<◌, ◌≤◌, List, [], ◌∷◌, ◌++◌, codes, decimal, sum, sum_by}
-use Rattle.std.specs.Fmt.{signed_decimal}
+-- What is printed of the reliable runs of a function.
+use Rattle.std.specs.Prelude.{ℕ, ◌≡◌, ◌<◌, ◌≤◌, List, ◌++◌, sum, sum_by}
 use Rattle.std.specs.List.{AllZip}
 use Rattle.rely_num.specs.Texts.{Bytes}
 use Rattle.rely_kernel.specs.declared.kernel.Linked.{Linked}
@@ -10,18 +9,8 @@ use Rattle.rely_kernel.specs.Rates.{own}
 use Rattle.rely_machine.specs.declared.outcome.Outcome.{Outcome}
 use Rattle.rely_machine.specs.Cost.{IsCost}
 use Rattle.rely_machine.specs.Run.{IsRun, IsOutcome, first}
+use Rattle.chisel_lines.specs.SampleLines.{energy_line, sample_lines}
 use Rattle.chisel_top.specs.declared.ready.Ready.{Ready}
-
--- the line of the sample with that number, counted from 1
-abbrev pub sample_line : ℕ → Outcome → Bytes
-sample_line i o = codes "sample " ++ decimal i ++ codes " result " ++ signed_decimal o.store.result ++ codes " steps " ++ decimal o.steps ++ codes "\n"
-
-abbrev pub sample_lines : ℕ → List Outcome → Bytes
-sample_lines i [] = []
-sample_lines i (o ∷ os) = sample_line i o ++ sample_lines (i + 1) os
-
-abbrev pub energy_line : ℕ → Bytes
-energy_line energy = codes "energy " ++ decimal energy ++ codes "\n"
 
 -- the steps that a command may not reach in all its runs together
 abbrev pub most_steps : ℕ

@@ -5,27 +5,27 @@ ghost use Rattle.std.specs.List.{All, AllZip};
 ghost use Rattle.rely_kernel.specs.Bound.{IsStart};
 ghost use Rattle.rely_kernel.specs.Valid.{IsLinked, IsValid};
 ghost use Rattle.rely_machine.specs.Run.{IsOutcome};
-ghost use Rattle.chisel_top.specs.Asked.{to_run};
+ghost use Rattle.chisel_words.specs.Asked.{to_run};
 ghost use Rattle.chisel_top.specs.Findings.{Files, asked, starts_in};
 ghost use Rattle.chisel_top.specs.Promises.{Tells};
-ghost use Rattle.chisel_top.specs.Simulations.{RunsPass, RunsTell, energy_line, most_steps, sample_line, sample_lines};
+ghost use Rattle.chisel_top.specs.Simulations.{RunsPass, RunsTell, most_steps};
 ghost use Rattle.chisel_top.specs.Steps.{Agrees, Fetching, IsAsked, IsReady, Refuses, input_refused};
-ghost use Rattle.chisel_top.specs.Words.{ToRun};
+ghost use Rattle.chisel_words.specs.Words.{ToRun};
 ghost use Rattle.chisel_top.specs.declared.fault.Fault.TheVariants as fault;
 
 use crate::Status;
-use crate::fault::{Fault, Refusal, Written};
+use crate::fault::{Fault, Written};
 use crate::fetch::{LONGEST_INPUTS, fetch};
 use crate::front::ready_of;
 use crate::ready::Ready;
-use crate::words::RunWords;
+use chisel_lines::{Refusal, energy_line, sample_lines};
 use chisel_outside::Shelf;
-use itoa::Buffer;
+use chisel_words::RunWords;
 use rely_inputs::InputFault;
 use rely_kernel::{Kernel, Linked, Store};
 use rely_machine::{Outcome, RunFault, energy};
 use rely_num::List;
-use std::alloc::{AllocError, Global};
+use std::alloc::Global;
 
 /// The steps that a command may not reach in all its runs together.
 pub(crate) const MOST_STEPS: u32 = 67_108_864;
@@ -78,33 +78,6 @@ fn outcomes<'w>(alloc: Global, l: &Linked, starts: &[Store]) -> Result<Vec<Outco
     Ok(outcomes)
 }
 
-/// The line of the sample with that number, counted from 1.
-fn sample_line(alloc: Global, number: u32, outcome: &Outcome) -> Result<Vec<u8>, AllocError>
-    ensures { IfOk result (λ v. v.items ≡ sample_line number outcome.now) }
-{
-    let mut buffer = Buffer::new();
-    let mut text = Vec::from_slice(alloc, b"sample ")?;
-    text.extend_from_slice(buffer.format(number).as_bytes())?;
-    text.extend_from_slice(b" result ")?;
-    text.extend_from_slice(buffer.format(outcome.store.result).as_bytes())?;
-    text.extend_from_slice(b" steps ")?;
-    text.extend_from_slice(buffer.format(outcome.steps).as_bytes())?;
-    text.extend_from_slice(b"\n")?;
-    Ok(text)
-}
-
-fn sample_lines(alloc: Global, outcomes: &[Outcome]) -> Result<Vec<u8>, AllocError>
-    requires { length outcomes.now ≤ 64 }
-    ensures { IfOk result (λ v. v.items ≡ sample_lines 1 outcomes.now) }
-{
-    let mut text = Vec::new(alloc);
-    for (i, outcome) in outcomes.iter().enumerate() {
-        let line = sample_line(alloc, i as u32 + 1, outcome)?;
-        text.extend_from_slice(line.as_slice())?;
-    }
-    Ok(text)
-}
-
 /// What is printed of the runs from these starts.
 fn told<'w>(alloc: Global, ready: &Ready, starts: &[Store]) -> Result<List<u8>, Fault<'w>>
     requires ready { IsReady ready.now }
@@ -120,10 +93,8 @@ fn told<'w>(alloc: Global, ready: &Ready, starts: &[Store]) -> Result<List<u8>, 
     };
     let mut text = sample_lines(alloc, outcomes.as_slice())?;
     let energy = energy(&ready.linked, &ready.hardware, outcomes.as_slice());
-    let mut buffer = Buffer::new();
-    text.extend_from_slice(b"energy ")?;
-    text.extend_from_slice(buffer.format(energy).as_bytes())?;
-    text.extend_from_slice(b"\n")?;
+    let line = energy_line(alloc, energy)?;
+    text.extend_from_slice(line.as_slice())?;
     Ok(List::from_vec(text))
 }
 

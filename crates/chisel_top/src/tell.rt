@@ -3,15 +3,15 @@
 ghost use Rattle.std.specs.Prelude.{◌≡◌, ◌++◌, false, codes, decimal};
 ghost use Rattle.chisel_top.specs.Telling.{joined, Delivers};
 ghost use Rattle.chisel_top.specs.Promises.{outcome_text, outcome_status, fault_text, fault_status};
-ghost use Rattle.chisel_top.specs.Lines.{hard_line, input_line, limit_line, refusal_line, source_line};
+ghost use Rattle.chisel_lines.specs.Lines.{hard_line, input_line, limit_line, refusal_line, source_line};
 
 use crate::Status;
-use crate::fault::{Fault, Refusal, Written};
-use crate::reason::{
-    key_text, lack_text, lex_place, lex_reason, name_place, name_reason, parse_place, parse_reason,
-    walk_place, walk_reason, why_text,
-};
+use crate::fault::{Fault, Written};
 use crate::simulate::MOST_STEPS;
+use chisel_lines::{
+    Refusal, key_text, lack_text, lex_place, lex_reason, name_place, name_reason, parse_place,
+    parse_reason, walk_place, walk_reason, why_text,
+};
 use chisel_outside::{Put, Sink};
 use itoa::Buffer;
 use rely_hard::{HardFault, HardWhy, Key};

@@ -19,8 +19,8 @@ use Rattle.rely_inputs.specs.declared.fault.InputWhy.{InputWhy}
 use Rattle.rely_inputs.specs.declared.fault.InputWhy.TheVariants as lack
 use Rattle.rely_precond.specs.declared.fault.PreFault.{PreFault}
 use Rattle.rely_precond.specs.declared.fault.PreFault.TheVariants as walk
-use Rattle.chisel_top.specs.declared.fault.Refusal.{Refusal}
-use Rattle.chisel_top.specs.declared.fault.Refusal.TheVariants as refusal
+use Rattle.chisel_lines.specs.declared.refusal.Refusal.{Refusal}
+use Rattle.chisel_lines.specs.declared.refusal.Refusal.TheVariants as refusal
 
 abbrev pub words_line : Bytes
 words_line = codes "fault words\n"

@@ -1,33 +1,33 @@
 //! The words of a command line.
 
 ghost use Rattle.std.specs.Prelude.{◌≡◌, option_map, map};
-ghost use Rattle.chisel_top.specs.Words.{form, verify_form, run_form, callees_of, is_plain};
-ghost use Rattle.chisel_top.specs.Asked.{asked_by};
+ghost use Rattle.chisel_words.specs.Words.{form, verify_form, run_form, callees_of, is_plain};
+ghost use Rattle.chisel_words.specs.Asked.{asked_by};
 
 use chisel_outside::Arg;
 
 /// What `verify` is asked.
 #[derive(Clone, Copy, Debug)]
-pub(crate) struct VerifyWords<'w> {
-    pub(crate) source: &'w str,
-    pub(crate) hardware: &'w str,
-    pub(crate) function: &'w str,
+pub struct VerifyWords<'w> {
+    pub source: &'w str,
+    pub hardware: &'w str,
+    pub function: &'w str,
     /// Whether the lines of the functions that are called are wanted.
-    pub(crate) callees: bool,
+    pub callees: bool,
 }
 
 /// What `run` is asked.
 #[derive(Clone, Copy, Debug)]
-pub(crate) struct RunWords<'w> {
-    pub(crate) source: &'w str,
-    pub(crate) hardware: &'w str,
-    pub(crate) inputs: &'w str,
-    pub(crate) function: &'w str,
+pub struct RunWords<'w> {
+    pub source: &'w str,
+    pub hardware: &'w str,
+    pub inputs: &'w str,
+    pub function: &'w str,
 }
 
 /// A command with its words.
 #[derive(Clone, Copy, Debug)]
-pub(crate) enum Asked<'w> {
+pub enum Asked<'w> {
     Verify(VerifyWords<'w>),
     Run(RunWords<'w>),
 }
@@ -96,7 +96,7 @@ fn run_words(words: &[Arg]) -> Option<Asked<'_>>
 }
 
 /// None where the words are in no form.
-pub(crate) fn read(words: &[Arg]) -> Option<Asked<'_>>
+pub fn read(words: &[Arg]) -> Option<Asked<'_>>
     ensures { option_map asked_by result ≡ form words.now }
 {
     let [command, words @ ..] = words else {

@@ -1,9 +1,9 @@
 -- The words of a command as plain data.
-use Rattle.chisel_top.specs.declared.words.Asked.{Asked}
-use Rattle.chisel_top.specs.declared.words.Asked.TheVariants as asked
-use Rattle.chisel_top.specs.declared.words.RunWords.{RunWords}
-use Rattle.chisel_top.specs.declared.words.VerifyWords.{VerifyWords}
-use Rattle.chisel_top.specs.Words.{Command, ToVerify, ToRun, Verify, Simulate}
+use Rattle.chisel_words.specs.declared.words.Asked.{Asked}
+use Rattle.chisel_words.specs.declared.words.Asked.TheVariants as asked
+use Rattle.chisel_words.specs.declared.words.RunWords.{RunWords}
+use Rattle.chisel_words.specs.declared.words.VerifyWords.{VerifyWords}
+use Rattle.chisel_words.specs.Words.{Command, ToVerify, ToRun, Verify, Simulate}
 
 abbrev pub to_verify : VerifyWords → Verify
 to_verify w = record { source = w.source.now; hardware = w.hardware.now; function = w.function.now; callees = w.callees }
