@@ -22,7 +22,8 @@ pub fn right_of(k: &Kernel, h: &Hardware, t: &Setting, label: u32) -> Atto
     rate_of(k, h, t, label_at(k, label))
 }
 
-fn rate_of(k: &Kernel, h: &Hardware, t: &Setting, label: Label) -> Atto
+/// The same probability by the label itself.
+pub fn rate_of(k: &Kernel, h: &Hardware, t: &Setting, label: Label) -> Atto
     requires fits { Fits k.now h.now t.now }
     requires in_range { InRange k.now label }
     ensures { result ≡ right_of h.now k.now t.now label }

@@ -87,12 +87,12 @@ exprs_long (e ∷ es) = ap suc (exprs_long es)
 
 -- ---- statements
 
-stmts_more : (ss : List St) (i : ℕ) (s : St) → slice_get ss i ≡ Some s → (more : List Item) → items (block_of (take i ss)) (stmt_items (stmt_of s.what) more) ≡ items (block_of (take (suc i) ss)) more
+pub stmts_more : (ss : List St) (i : ℕ) (s : St) → slice_get ss i ≡ Some s → (more : List Item) → items (block_of (take i ss)) (stmt_items (stmt_of s.what) more) ≡ items (block_of (take (suc i) ss)) more
 stmts_more [] i s is more = absurd (cc)
 stmts_more (x ∷ ss) zero s is more = ap (λ y. stmt_items (stmt_of y) more) (ap (λ (u : St). u.what) (sym (some_is is)))
 stmts_more (x ∷ ss) (suc i) s is more = ap (stmt_items (stmt_of x.what)) (stmts_more ss i s is more)
 
-stmts_at : (ss : List St) (i : ℕ) (s : St) → slice_get ss i ≡ Some s → (more : List Item)
+pub stmts_at : (ss : List St) (i : ℕ) (s : St) → slice_get ss i ≡ Some s → (more : List Item)
     → items (block_of (take i ss)) (stmt_items (stmt_of s.what) (items (block_of (drop (suc i) ss)) more)) ≡ items (block_of ss) more
 stmts_at [] i s is more = absurd (cc)
 stmts_at (x ∷ ss) zero s is more = ap (λ y. stmt_items (stmt_of y) (items (block_of ss) more)) (ap (λ (u : St). u.what) (sym (some_is is)))

@@ -52,7 +52,7 @@ impl Held {
         })
     }
 
-    /// What a callee starts with.
+    /// What a callee starts with: an argument for each parameter, zeros in its locals.
     pub fn fresh(alloc: Global, vars: &[Var], arguments: &[i64]) -> Result<Held, AllocError>
         ensures { (k : Kernel) → IsValid k → k.vars ≡ vars.now → length arguments.now ≡ length (parameters k) → IfOk result (λ h. h ≡ fresh k arguments.now) }
     {
@@ -73,6 +73,7 @@ impl Held {
         })
     }
 
+    /// The number of a scalar.
     pub fn read(&self, v: u32) -> i64
         requires { length (cell self.now v) ≡ 1 }
         ensures { result ≡ top (cell self.now v) }
@@ -80,7 +81,7 @@ impl Held {
         self.cells[v as usize].as_slice()[0]
     }
 
-    /// An element, and 0 outside.
+    /// The element of an array at an index, and 0 outside.
     pub fn read_at(&self, a: u32, i: i64) -> i64
         requires { a < length self.now.cells }
         ensures { result ≡ read_at (cell self.now a) i }
@@ -94,6 +95,7 @@ impl Held {
         }
     }
 
+    /// Puts a number into a scalar.
     pub fn write(&mut self, v: u32, z: i64)
         requires { length (cell self.old v) ≡ 1 }
         ensures { self.new ≡ with_cell self.old v (z ∷ []) }
@@ -101,7 +103,7 @@ impl Held {
         self.cells[v as usize].set(0, z);
     }
 
-    /// Outside nothing is written.
+    /// Puts a number into an array at an index; outside nothing is written.
     pub fn write_at(&mut self, a: u32, i: i64, z: i64)
         requires { a < length self.old.cells }
         ensures { self.new ≡ with_cell self.old a (written_at (cell self.old a) i z) }
@@ -112,12 +114,14 @@ impl Held {
         }
     }
 
+    /// The result so far.
     pub fn result(&self) -> i64
         ensures { result ≡ self.now.result }
     {
         self.result
     }
 
+    /// Puts a number into the result.
     pub fn set_result(&mut self, z: i64)
         ensures { self.new ≡ record self.old { result = z } }
     {

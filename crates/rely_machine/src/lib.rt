@@ -1,5 +1,5 @@
 //! The reliable run of a linked function: where it ends, how often it takes each label, and what it costs in energy.
-//! The layers above use `run` on each sample, and `energy` on the outcomes.
+//! The layers above use `run` on each sample, and `energy` on the outcomes; `Held` and `operate` serve other runs too.
 #![tactic(auto)]
 
 mod cost;
@@ -15,8 +15,10 @@ mod walk;
 
 pub use cost::energy;
 pub use fault::RunFault;
+pub use held::Held;
 pub use outcome::Outcome;
 pub use reliable::run;
+pub use value::operate;
 
 #[cfg(test)]
 mod tests;

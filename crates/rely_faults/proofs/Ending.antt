@@ -1,0 +1,108 @@
+-- How a trial begins and ends.
+use Rattle.std.proofs.Common.{◌≡◌, ℕ, ◌≤◌, ◌<◌, ◌+◌, List, [], ◌∷◌, ◌++◌, length, refl, sym, ap, subst, ◌∙◌, arith}
+use Rattle.std.specs.List.{AllByRecursion}
+use Rattle.rand_pcg.specs.Lcg.{Lcg}
+use Rattle.rely_kernel.specs.declared.kernel.Kernel.{Kernel}
+use Rattle.rely_kernel.specs.declared.kernel.St.{St}
+use Rattle.rely_kernel.specs.declared.setting.Store.{Store}
+use Rattle.rely_kernel.specs.Bound.{IsStart}
+use Rattle.rely_kernel.specs.Machine.{items}
+use Rattle.rely_kernel.specs.Setting.{Fits}
+use Rattle.rely_kernel.specs.Text.{Stmt, Block, done, ◌then◌, block_of}
+use Rattle.rely_kernel.specs.Valid.{BlockFits, BodyFits, IsValid, PlaceFits, StmtFits, block_calls, stmt_calls}
+use Rattle.rely_kernel.proofs.Fine.{AllFine, fine_body}
+use Rattle.rely_faults.specs.declared.outcome.Tried.{Tried}
+use Rattle.rely_faults.specs.declared.running.Running.{Running}
+use Rattle.rely_faults.specs.Going.{Counts, Ends, Exceeds, IsRunning, Point, Runs, Stands, here, standing}
+use Rattle.rely_faults.specs.Trial.{IsTried, LeavesWords, PassesLimit, Trying, first, tried_after, tried_through}
+
+-- ---- a kernel without a call place calls nothing
+
+none_after : (xs ys : List (ℕ × ℕ)) → xs ≡ [] → ys ≡ [] → xs ++ ys ≡ []
+none_after xs ys e f = rw (e, f) refl
+
+module _ (k : Kernel) (none : k.calls ≡ []) where
+  mutual
+    stmt_quiet : (x : Stmt) → StmtFits k x → stmt_calls x ≡ []
+    stmt_quiet (Stmt.Set v e) h = refl
+    stmt_quiet (Stmt.SetElem a i e) h = refl
+    stmt_quiet (Stmt.If c x y) h = none_after (block_calls x) (block_calls y) (block_quiet x h.1) (block_quiet y h.2)
+    stmt_quiet (Stmt.While c n x) h = block_quiet x h.1
+    stmt_quiet (Stmt.Repeat n x) h = block_quiet x h
+    stmt_quiet (Stmt.Result e) h = refl
+    stmt_quiet (Stmt.Call v place es) h = let below = h.1 in let long = ap length none in absurd (omega (arith, below, long))
+    stmt_quiet Stmt.Enter h = refl
+
+    block_quiet : (x : Block) → BlockFits k x → block_calls x ≡ []
+    block_quiet done h = refl
+    block_quiet (x then rest) h = none_after (stmt_calls x) (block_calls rest) (stmt_quiet x h.0) (block_quiet rest h.1)
+
+  body_quiet : (x : Block) → BodyFits k x → block_calls x ≡ []
+  body_quiet done h = refl
+  body_quiet (Stmt.Result e then done) h = refl
+  body_quiet (Stmt.Result e then (y then rest)) h = absurd h.0
+  body_quiet (Stmt.Set v e then rest) h = body_quiet rest h.1
+  body_quiet (Stmt.SetElem a i e then rest) h = body_quiet rest h.1
+  body_quiet (Stmt.If c x y then rest) h = none_after (stmt_calls (Stmt.If c x y)) (block_calls rest) (stmt_quiet (Stmt.If c x y) h.0) (body_quiet rest h.1)
+  body_quiet (Stmt.While c n x then rest) h = none_after (block_calls x) (block_calls rest) (stmt_quiet (Stmt.While c n x) h.0) (body_quiet rest h.1)
+  body_quiet (Stmt.Repeat n x then rest) h = none_after (block_calls x) (block_calls rest) (stmt_quiet (Stmt.Repeat n x) h.0) (body_quiet rest h.1)
+  body_quiet (Stmt.Call v place es then rest) h = none_after (stmt_calls (Stmt.Call v place es)) (block_calls rest) (stmt_quiet (Stmt.Call v place es) h.0) (body_quiet rest h.1)
+  body_quiet (Stmt.Enter then rest) h = absurd h.0
+
+  -- so its body is fine by itself
+  pub alone_fine : IsValid k → AllFine (k ∷ []) 0 k (block_of k.body)
+  alone_fine valid = fine_body (k ∷ []) 0 k (block_of k.body) valid.body (subst (AllByRecursion (PlaceFits (k ∷ []) 0 k)) (sym (body_quiet (block_of k.body) valid.body)) tt)
+
+-- ---- a trial from a start
+
+abbrev pub no_counts : ℕ → Counts
+no_counts limit = record { taken = 0; steps = 0; limit = limit }
+
+module _ (r : Running) (start : Store) (g : Lcg) (limit : ℕ) where
+  pub starts_running : Fits r.kernel.now r.hardware.now r.setting.now → IsStart r.kernel.now start → IsRunning r start
+  starts_running fits begins = record { fits = fits; shape = begins.shape }
+
+  begins_at : Stands r (first r.kernel.now start g) (standing (items (block_of r.kernel.now.body) []) [] start) (here start (no_counts limit) g)
+  unfolding tried_after tried_through
+  begins_at = record { n = 0; leads = refl; steps = refl }
+
+  pub at_once : limit ≡ 0 → PassesLimit r.kernel.now r.hardware.now r.setting.now start g limit
+  at_once none = record { n = 0; steps = omega (arith, none) }
+
+  pub untouched : LeavesWords r.kernel.now r.hardware.now r.setting.now start g g
+  unfolding tried_after
+  untouched = record { n = 0; words_left = refl }
+
+  module _ (t : Counts) (t_is : t ≡ no_counts limit) (held : Store) (held_is : held ≡ start) (body : List St) (body_is : body ≡ r.kernel.now.body) where
+    module _ (g' : Lcg) (h : Exceeds r (items (block_of body)) (λ st. st) (here held t g) g') where
+      ended : Ends r (first r.kernel.now start g) limit g'
+      ended =
+          let from_start : Exceeds r (items (block_of r.kernel.now.body)) (λ st. st) (here start (no_counts limit) g) g' =
+              rw (← t_is, ← held_is) (subst (λ ss. Exceeds r (items (block_of ss)) (λ st. st) (here held t g) g') body_is h) in
+          from_start.ends (first r.kernel.now start g) [] [] begins_at
+
+      pub passes : PassesLimit r.kernel.now r.hardware.now r.setting.now start g limit
+      passes = record { n = ended.m; steps = ended.steps }
+
+      pub leaves : LeavesWords r.kernel.now r.hardware.now r.setting.now start g g'
+      leaves = record { n = ended.n; words_left = ended.words }
+
+    module _ (s : Store) (u : Counts) (g' : Lcg) (h : Runs r (items (block_of body)) (λ st. st) (λ st. st) (here held t g) (here s u g')) where
+      at_end : Stands r (first r.kernel.now start g) (standing [] [] s) (here s u g')
+      at_end =
+          let from_start : Runs r (items (block_of r.kernel.now.body)) (λ st. st) (λ st. st) (here start (no_counts limit) g) (here s u g') =
+              rw (← t_is, ← held_is) (subst (λ ss. Runs r (items (block_of ss)) (λ st. st) (λ st. st) (here held t g) (here s u g')) body_is h) in
+          from_start.goes (first r.kernel.now start g) [] [] begins_at
+
+      pub tried_is : (o : Tried) → o.store ≡ s → o.steps ≡ u.steps → o.words ≡ u.taken → IsTried r.kernel.now r.hardware.now r.setting.now start g o g'
+      tried_is o store steps words = record {
+        n = at_end.n;
+        end = standing [] [] s;
+        leads = at_end.leads ∙ ap (λ m. record { config = standing [] [] s; words = g'; taken = m }) (sym words);
+        over = refl;
+        store = store;
+        steps = steps ∙ at_end.steps;
+      }
+
+      pub leaves_at_end : LeavesWords r.kernel.now r.hardware.now r.setting.now start g g'
+      leaves_at_end = record { n = at_end.n; words_left = ap (λ (x : Trying). x.words) at_end.leads }

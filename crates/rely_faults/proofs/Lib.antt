@@ -1,0 +1,9 @@
+pub mod Acting
+pub mod Determined
+pub mod Drawing
+pub mod Ending
+pub mod Following
+pub mod Keeping
+pub mod Looping
+pub mod Values
+pub mod Walking

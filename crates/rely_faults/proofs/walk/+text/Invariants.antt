@@ -1,0 +1,33 @@
+use Rattle.std.proofs.Common.{◌+◌, ◌-◌, ◌∷◌, take}
+use Rattle.rely_kernel.specs.Machine.{Repeat, While, items}
+use Rattle.rely_kernel.specs.Text.{block_of, expr_of, stmt_of}
+use Rattle.rely_machine.proofs.Sizes.{block_size, stmt_size}
+use Rattle.rely_faults.specs.Going.{Runs, here}
+use Rattle.rely_faults.proofs.Looping.{Leads}
+use Rattle.rely_faults.proofs.walk.+text.Given as goal
+
+abbrev pub decreases-block : goal.decreases-block
+decreases-block l = block_size (block_of l.text.now)
+
+abbrev pub decreases-statement : goal.decreases-statement
+decreases-statement l = stmt_size (stmt_of l.what.now)
+
+abbrev pub decreases-choose : goal.decreases-choose
+decreases-choose l = 2 + block_size (block_of l.s.now) + block_size (block_of l.t.now)
+
+abbrev pub decreases-turns : goal.decreases-turns
+decreases-turns l = 1 + block_size (block_of l.text.now)
+
+abbrev pub decreases-rounds : goal.decreases-rounds
+decreases-rounds l = 1 + block_size (block_of l.text.now)
+
+abbrev pub invariant-block-loop-s : goal.invariant-block-loop-s
+invariant-block-loop-s l = Runs l.r (items (block_of (take l.s-index l.text))) (λ st. st) (λ st. st) (here l.fn.held l.fn.tally l.fn.words) (here l.held l.tally l.words)
+
+abbrev pub invariant-rounds-loop : goal.invariant-rounds-loop
+invariant-rounds-loop l =
+    Leads l.r (λ is. While (expr_of l.e) l.n (block_of l.text) ∷ is) (λ is. While (expr_of l.e) (l.n - l.counter) (block_of l.text) ∷ is) (here l.fn.held l.fn.tally l.fn.words) (here l.held l.tally l.words)
+
+abbrev pub invariant-turns-loop : goal.invariant-turns-loop
+invariant-turns-loop l =
+    Leads l.r (λ is. Repeat l.n (block_of l.text) ∷ is) (λ is. Repeat (l.n - l.counter) (block_of l.text) ∷ is) (here l.fn.held l.fn.tally l.fn.words) (here l.held l.tally l.words)

@@ -1,0 +1,18 @@
+//! A trial: a run of a kernel that calls nothing, in which each chance step is right or wrong by the words of a generator.
+//! The layers above use `trial` beside the reliable run of the same sample.
+#![tactic(auto)]
+
+mod drawn;
+mod laws;
+mod outcome;
+mod running;
+mod seeded;
+mod tally;
+mod walk;
+
+pub use laws::{each_step_follows, ends_or_passes, one_outcome, words_are_taken};
+pub use outcome::Tried;
+pub use seeded::trial;
+
+#[cfg(test)]
+mod tests;
