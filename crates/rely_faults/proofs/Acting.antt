@@ -32,8 +32,8 @@ module _ (r : Running) (s : Store) (t : Counts) (g : Lcg) where
     pub set_stops_first : {g' : Lcg} → Exceeds r (expr_items e) (λ st. st) (here s t g) g' → Exceeds r (stmt_items (Stmt.Set v e)) (λ st. st) (here s t g) g'
     set_stops_first x = exceeds_first r (λ more. Write v ∷ more) x
 
-    pub set_stops : {t1 : Counts} {g1 g' : Lcg} (y : ℤ) → Runs r (expr_items e) (λ st. st) (λ st. y ∷ st) (here s t g) (here s t1 g1) → IsFull t1 g1 g' → Exceeds r (stmt_items (Stmt.Set v e)) (λ st. st) (here s t g) g'
-    set_stops {t1} {g1} {g'} y x full = exceeds_then r x (write_exceeds r s t1 g1 (λ st. y ∷ st) g' full v)
+    pub set_stops : {t1 : Counts} {g1 g' : Lcg} (y : ℤ) → Runs r (expr_items e) (λ st. st) (λ st. y ∷ st) (here s t g) (here s t1 g1) → IsFull t1 → g' ≡ g1 → Exceeds r (stmt_items (Stmt.Set v e)) (λ st. st) (here s t g) g'
+    set_stops {t1} {g1} {g'} y x full same = exceeds_then r x (write_exceeds r s t1 g1 (λ st. y ∷ st) g' full same v)
 
   -- ---- an element
 
@@ -53,9 +53,9 @@ module _ (r : Running) (s : Store) (t : Counts) (g : Lcg) where
     element_stops_then n index h = exceeds_then r index (exceeds_over r (λ st. n ∷ st) (exceeds_first r (λ more. WriteElem a ∷ more) h))
 
     pub element_stops : {t1 t2 : Counts} {g1 g2 g' : Lcg} (n y : ℤ) → Runs r (expr_items i) (λ st. st) (λ st. n ∷ st) (here s t g) (here s t1 g1) → Runs r (expr_items e) (λ st. st) (λ st. y ∷ st) (here s t1 g1) (here s t2 g2)
-        → IsFull t2 g2 g' → Exceeds r (stmt_items (Stmt.SetElem a i e)) (λ st. st) (here s t g) g'
-    element_stops {t1} {t2} {g1} {g2} {g'} n y index x full =
-        exceeds_then r index (exceeds_then r (over r (λ st. n ∷ st) x) (write_elem_exceeds r s t2 g2 (λ st. y ∷ n ∷ st) g' full a))
+        → IsFull t2 → g' ≡ g2 → Exceeds r (stmt_items (Stmt.SetElem a i e)) (λ st. st) (here s t g) g'
+    element_stops {t1} {t2} {g1} {g2} {g'} n y index x full same =
+        exceeds_then r index (exceeds_then r (over r (λ st. n ∷ st) x) (write_elem_exceeds r s t2 g2 (λ st. y ∷ n ∷ st) g' full same a))
 
   -- ---- the result
 

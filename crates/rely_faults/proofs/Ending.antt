@@ -1,5 +1,5 @@
 -- How a trial begins and ends.
-use Rattle.std.proofs.Common.{◌≡◌, ℕ, ◌≤◌, ◌<◌, ◌+◌, List, [], ◌∷◌, ◌++◌, length, refl, sym, ap, subst, ◌∙◌, arith}
+use Rattle.std.proofs.Common.{◌≡◌, ℕ, suc, ◌≤◌, ◌<◌, ◌+◌, List, [], ◌∷◌, ◌++◌, length, refl, sym, ap, subst, ◌∙◌, arith}
 use Rattle.std.specs.List.{AllByRecursion}
 use Rattle.rand_pcg.specs.Lcg.{Lcg}
 use Rattle.rely_kernel.specs.declared.kernel.Kernel.{Kernel}
@@ -14,7 +14,7 @@ use Rattle.rely_kernel.proofs.Fine.{AllFine, fine_body}
 use Rattle.rely_faults.specs.declared.outcome.Tried.{Tried}
 use Rattle.rely_faults.specs.declared.running.Running.{Running}
 use Rattle.rely_faults.specs.Going.{Counts, Ends, Exceeds, IsRunning, Point, Runs, Stands, here, standing}
-use Rattle.rely_faults.specs.Trial.{IsTried, LeavesWords, PassesLimit, Trying, first, tried_after, tried_through}
+use Rattle.rely_faults.specs.Trial.{IsTried, LeavesWords, PassesLimit, StopsAt, Trying, first, tried_after, tried_through}
 
 -- ---- a kernel without a call place calls nothing
 
@@ -69,6 +69,10 @@ module _ (r : Running) (start : Store) (g : Lcg) (limit : ℕ) where
   pub at_once : limit ≡ 0 → PassesLimit r.kernel.now r.hardware.now r.setting.now start g limit
   at_once none = record { n = 0; steps = omega (arith, none) }
 
+  pub stops_at_once : limit ≡ 0 → StopsAt r.kernel.now r.hardware.now r.setting.now start g limit g
+  unfolding tried_after
+  stops_at_once none = record { n = 0; words_left = refl; before = λ some. absurd (omega (arith, some)); reached = omega (arith, none) }
+
   pub untouched : LeavesWords r.kernel.now r.hardware.now r.setting.now start g g
   unfolding tried_after
   untouched = record { n = 0; words_left = refl }
@@ -82,7 +86,10 @@ module _ (r : Running) (start : Store) (g : Lcg) (limit : ℕ) where
           from_start.ends (first r.kernel.now start g) [] [] begins_at
 
       pub passes : PassesLimit r.kernel.now r.hardware.now r.setting.now start g limit
-      passes = record { n = ended.m; steps = ended.steps }
+      passes = record { n = suc ended.n; steps = ended.reached }
+
+      pub stops : StopsAt r.kernel.now r.hardware.now r.setting.now start g limit g'
+      stops = record { n = ended.n; words_left = ended.words; before = λ some. ended.before; reached = ended.reached }
 
       pub leaves : LeavesWords r.kernel.now r.hardware.now r.setting.now start g g'
       leaves = record { n = ended.n; words_left = ended.words }

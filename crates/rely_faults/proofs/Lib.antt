@@ -5,5 +5,6 @@ pub mod Ending
 pub mod Following
 pub mod Keeping
 pub mod Looping
+pub mod Taking
 pub mod Values
 pub mod Walking

@@ -9,7 +9,7 @@ use Rattle.rely_kernel.specs.Text.{Expr, Stmt, Block, done, ◌then◌, append, 
 use Rattle.rely_kernel.proofs.Skip.{items-append}
 use Rattle.rely_machine.proofs.Listing.{stmts_at, stmts_more}
 use Rattle.rely_faults.specs.declared.running.Running.{Running}
-use Rattle.rely_faults.specs.Going.{Counts, Ends, Exceeds, IsRunning, Point, Runs, Stands, here, standing, with_step}
+use Rattle.rely_faults.specs.Going.{Counts, Ends, Exceeds, IsFull, IsRunning, Point, Runs, Stands, here, standing, with_step}
 use Rattle.rely_faults.specs.Trial.{Trying}
 use Rattle.rely_faults.proofs.Walking.{and_then, enter_exceeds, enter_runs, exceeds_first, exceeds_then, free}
 
@@ -68,8 +68,8 @@ module _ (r : Running) where
         → Leads r a (λ more. Repeat m b ∷ more) u w
     turn_goes {t'} n m e h count body = then_runs (then_runs (turn_by n m e h) (enter_runs r (λ st. st) v.store v.counts t' v.words count h.running)) body
 
-    pub turn_stops : (n m : ℕ) → n ≡ suc m → Leads r a (λ more. Repeat n b ∷ more) u v → v.counts.limit ≤ v.counts.steps + 1 → Exceeds r a (λ st. st) u v.words
-    turn_stops n m e h many = then_exceeds (λ more. items b (Repeat m b ∷ more)) (turn_by n m e h) (enter_exceeds r (λ st. st) v many)
+    pub turn_stops : (n m : ℕ) → n ≡ suc m → Leads r a (λ more. Repeat n b ∷ more) u v → IsFull v.counts → Exceeds r a (λ st. st) u v.words
+    turn_stops n m e h full = then_exceeds (λ more. items b (Repeat m b ∷ more)) (turn_by n m e h) (enter_exceeds r (λ st. st) v full)
 
     pub turn_stops_then : {t' : Counts} {g : Lcg} (n m : ℕ) → n ≡ suc m → Leads r a (λ more. Repeat n b ∷ more) u v → t' ≡ with_step v.counts 0 → Exceeds r (items b) (λ st. st) (here v.store t' v.words) g → Exceeds r a (λ st. st) u g
     turn_stops_then {t'} n m e h count body = then_exceeds (λ more. Repeat m b ∷ more) (then_runs (turn_by n m e h) (enter_runs r (λ st. st) v.store v.counts t' v.words count h.running)) body
@@ -157,8 +157,8 @@ module _ (r : Running) where
       pub round_goes : {t' : Counts} {w' : Point} → t' ≡ with_step w.counts 0 → Runs r (items b) (λ st. st) (λ st. st) (here w.store t' w.words) w' → Leads r a (λ more. While e m b ∷ more) u w'
       round_goes {t'} count body = then_runs (then_runs goes_on (enter_runs r (λ st. st) w.store w.counts t' w.words count test.running)) body
 
-      pub round_stops : w.counts.limit ≤ w.counts.steps + 1 → Exceeds r a (λ st. st) u w.words
-      round_stops many = then_exceeds (λ more. items b (While e m b ∷ more)) goes_on (enter_exceeds r (λ st. st) w many)
+      pub round_stops : IsFull w.counts → Exceeds r a (λ st. st) u w.words
+      round_stops full = then_exceeds (λ more. items b (While e m b ∷ more)) goes_on (enter_exceeds r (λ st. st) w full)
 
       pub round_stops_then : {t' : Counts} {g : Lcg} → t' ≡ with_step w.counts 0 → Exceeds r (items b) (λ st. st) (here w.store t' w.words) g → Exceeds r a (λ st. st) u g
       round_stops_then {t'} count body = then_exceeds (λ more. While e m b ∷ more) (then_runs goes_on (enter_runs r (λ st. st) w.store w.counts t' w.words count test.running)) body

@@ -32,8 +32,8 @@ module _ (r : Running) (s : Store) (t : Counts) (g : Lcg) (running : IsRunning r
     pub read_goes : {p : ℕ} {right z : ℤ} {t' : Counts} {g' : Lcg} → p ≡ rate r (label.Read v) → right ≡ top (cell s v) → Steps p right t g z t' g' → Runs r (expr_items e) (λ st. st) (λ st. z ∷ st) (here s t g) (here s t' g')
     read_goes {p} {right} {z} {t'} {g'} at same steps = rw is (read_runs r s t g p right z t' g' steps v at same running)
 
-    pub read_stops : {g' : Lcg} → IsFull t g g' → Exceeds r (expr_items e) (λ st. st) (here s t g) g'
-    read_stops {g'} full = rw is (read_exceeds r s t g (λ st. st) g' full v)
+    pub read_stops : {g' : Lcg} → IsFull t → g' ≡ g → Exceeds r (expr_items e) (λ st. st) (here s t g) g'
+    read_stops {g'} full same = rw is (read_exceeds r s t g (λ st. st) g' full same v)
 
   module _ (a : ℕ) (i : Expr) (is : e ≡ Expr.Elem a i) where
     pub elem_fits : IsTrue (is_array r.kernel.now a) × ExprFits r.kernel.now i
@@ -52,8 +52,8 @@ module _ (r : Running) (s : Store) (t : Counts) (g : Lcg) (running : IsRunning r
     pub elem_stops_first : {g' : Lcg} → Exceeds r (expr_items i) (λ st. st) (here s t g) g' → Exceeds r (expr_items e) (λ st. st) (here s t g) g'
     elem_stops_first x = rw is (exceeds_first r (λ more. Elem a ∷ more) x)
 
-    pub elem_stops : {t1 : Counts} {g1 g' : Lcg} (y : ℤ) → Runs r (expr_items i) (λ st. st) (λ st. y ∷ st) (here s t g) (here s t1 g1) → IsFull t1 g1 g' → Exceeds r (expr_items e) (λ st. st) (here s t g) g'
-    elem_stops {t1} {g1} {g'} y index full = rw is (exceeds_then r index (elem_exceeds r s t1 g1 (λ st. y ∷ st) g' full a))
+    pub elem_stops : {t1 : Counts} {g1 g' : Lcg} (y : ℤ) → Runs r (expr_items i) (λ st. st) (λ st. y ∷ st) (here s t g) (here s t1 g1) → IsFull t1 → g' ≡ g1 → Exceeds r (expr_items e) (λ st. st) (here s t g) g'
+    elem_stops {t1} {g1} {g'} y index full same = rw is (exceeds_then r index (elem_exceeds r s t1 g1 (λ st. y ∷ st) g' full same a))
 
   module _ (site : ℕ) (x y : Expr) (is : e ≡ Expr.Bin site x y) where
     pub bin_fits : (site < length r.kernel.now.sites) × ExprFits r.kernel.now x × ExprFits r.kernel.now y
@@ -74,6 +74,6 @@ module _ (r : Running) (s : Store) (t : Counts) (g : Lcg) (running : IsRunning r
     bin_stops_then a first h = rw is (exceeds_then r first (exceeds_over r (λ st. a ∷ st) (exceeds_first r (λ more. Op site ∷ more) h)))
 
     pub bin_stops : {t1 t2 : Counts} {g1 g2 g' : Lcg} (a b : ℤ) → Runs r (expr_items x) (λ st. st) (λ st. a ∷ st) (here s t g) (here s t1 g1) → Runs r (expr_items y) (λ st. st) (λ st. b ∷ st) (here s t1 g1) (here s t2 g2)
-        → IsFull t2 g2 g' → Exceeds r (expr_items e) (λ st. st) (here s t g) g'
-    bin_stops {t1} {t2} {g1} {g2} {g'} a b first second full =
-        rw is (exceeds_then r first (exceeds_then r (over r (λ st. a ∷ st) second) (op_exceeds r s t2 g2 (λ st. b ∷ a ∷ st) g' full site)))
+        → IsFull t2 → g' ≡ g2 → Exceeds r (expr_items e) (λ st. st) (here s t g) g'
+    bin_stops {t1} {t2} {g1} {g2} {g'} a b first second full same =
+        rw is (exceeds_then r first (exceeds_then r (over r (λ st. a ∷ st) second) (op_exceeds r s t2 g2 (λ st. b ∷ a ∷ st) g' full same site)))

@@ -22,6 +22,10 @@ pub on_err : {T E Q : Type 0} (r : Result T E) → Q → OnErr r Q
 on_err (Ok x) q = tt
 on_err (Err e) q = q
 
+pub both_err : {T E P Q R : Type 0} (r : Result T E) → (P → Q → R) → OnErr r P → OnErr r Q → OnErr r R
+both_err (Ok x) f p q = tt
+both_err (Err e) f p q = f p q
+
 add-right_zero : (m : ℕ) → m + 0 ≡ m
 add-right_zero m = omega arith
 
@@ -82,12 +86,12 @@ module _ (r : Running) where
         (ap (λ (t : Counts). t.steps) counts ∙ ap (λ m. a.counts.steps + m) (sym one))
 
     -- where the next step would be one too many
-    pub too_many : (g : Lcg) → cost rate fs d ≡ 1 → a.counts.limit ≤ a.counts.steps + 1 → g ≡ a.words → Ends r x a.counts.limit g
-    too_many g one many same = record {
+    pub too_many : (g : Lcg) → cost rate fs d ≡ 1 → IsFull a.counts → g ≡ a.words → Ends r x a.counts.limit g
+    too_many g one full same = record {
       n = h.n;
       words = ap (λ (y : Trying). y.words) h.leads ∙ sym same;
-      m = suc h.n;
-      steps = rw (steps_more rate fs h.n x, h.leads, ← h.steps, one) many;
+      before = rw (← h.steps) full.below;
+      reached = rw (steps_more rate fs h.n x, h.leads, ← h.steps, one) full.many;
     }
 
   -- ---- one part after another
@@ -146,8 +150,8 @@ module _ (r : Running) where
         (ap (λ (v : Counts). v.steps) counts);
   }
 
-  pub enter_exceeds : (f : List ℤ → List ℤ) (a : Point) → a.counts.limit ≤ a.counts.steps + 1 → Exceeds r (λ is. Enter ∷ is) f a a.words
-  enter_exceeds f a many = record { ends = λ x more st stands. too_many x (standing (Enter ∷ more) (f st) a.store) a stands a.words refl many refl }
+  pub enter_exceeds : (f : List ℤ → List ℤ) (a : Point) → IsFull a.counts → Exceeds r (λ is. Enter ∷ is) f a a.words
+  enter_exceeds f a full = record { ends = λ x more st stands. too_many x (standing (Enter ∷ more) (f st) a.store) a stands a.words refl full refl }
 
   -- ---- chance steps
 
@@ -166,8 +170,8 @@ module _ (r : Running) where
           (steps.counts ∙ ap (λ q. with_step t (draw q g).taken) at) (steps.words ∙ ap (λ q. (draw q g).words) at);
     }
 
-    chance_exceeds : (g' : Lcg) → IsFull t g g' → Exceeds r (λ is. i ∷ is) f (here s t g) g'
-    chance_exceeds g' full = record { ends = λ x more st stands. too_many x (standing (i ∷ more) (f st) s) (here s t g) stands g' (one more (f st) s) full.many full.same }
+    chance_exceeds : (g' : Lcg) → IsFull t → g' ≡ g → Exceeds r (λ is. i ∷ is) f (here s t g) g'
+    chance_exceeds g' full same = record { ends = λ x more st stands. too_many x (standing (i ∷ more) (f st) s) (here s t g) stands g' (one more (f st) s) full same }
 
   module _ (s : Store) (t : Counts) (g : Lcg) where
     module _ (p : ℕ) (right z : ℤ) (t' : Counts) (g' : Lcg) (steps : Steps p right t g z t' g') where
@@ -208,18 +212,18 @@ module _ (r : Running) where
           leaves (Some n) more st e = ap (λ n. standing more st (with_cell s a (written_at (cell s a) i n))) (sym e)
 
     -- one chance step too many
-    module _ (f : List ℤ → List ℤ) (g' : Lcg) (full : IsFull t g g') where
+    module _ (f : List ℤ → List ℤ) (g' : Lcg) (full : IsFull t) (same : g' ≡ g) where
       pub read_exceeds : (v : ℕ) → Exceeds r (λ is. Read v ∷ is) f (here s t g) g'
-      read_exceeds v = chance_exceeds (label.Read v) (Read v) f s t g (λ more st s. refl) (λ more st s. refl) g' full
+      read_exceeds v = chance_exceeds (label.Read v) (Read v) f s t g (λ more st s. refl) (λ more st s. refl) g' full same
 
       pub elem_exceeds : (a : ℕ) → Exceeds r (λ is. Elem a ∷ is) f (here s t g) g'
-      elem_exceeds a = chance_exceeds (label.Read a) (Elem a) f s t g (λ more st s. refl) (λ more st s. refl) g' full
+      elem_exceeds a = chance_exceeds (label.Read a) (Elem a) f s t g (λ more st s. refl) (λ more st s. refl) g' full same
 
       pub op_exceeds : (site : ℕ) → Exceeds r (λ is. Op site ∷ is) f (here s t g) g'
-      op_exceeds site = chance_exceeds (label.Op site) (Op site) f s t g (λ more st s. refl) (λ more st s. refl) g' full
+      op_exceeds site = chance_exceeds (label.Op site) (Op site) f s t g (λ more st s. refl) (λ more st s. refl) g' full same
 
       pub write_exceeds : (v : ℕ) → Exceeds r (λ is. Write v ∷ is) f (here s t g) g'
-      write_exceeds v = chance_exceeds (label.Write v) (Write v) f s t g (λ more st s. refl) (λ more st s. refl) g' full
+      write_exceeds v = chance_exceeds (label.Write v) (Write v) f s t g (λ more st s. refl) (λ more st s. refl) g' full same
 
       pub write_elem_exceeds : (a : ℕ) → Exceeds r (λ is. WriteElem a ∷ is) f (here s t g) g'
-      write_elem_exceeds a = chance_exceeds (label.Write a) (WriteElem a) f s t g (λ more st s. refl) (λ more st s. refl) g' full
+      write_elem_exceeds a = chance_exceeds (label.Write a) (WriteElem a) f s t g (λ more st s. refl) (λ more st s. refl) g' full same

@@ -1,5 +1,5 @@
 -- What a part of the code does: where a trial stands before some items, it also stands after them.
-use Rattle.std.specs.Prelude.{ℕ, ◌+◌, ◌≡◌, ◌≤◌, ℤ, List, []}
+use Rattle.std.specs.Prelude.{ℕ, suc, ◌+◌, ◌≡◌, ◌<◌, ◌≤◌, ℤ, List, []}
 use Rattle.std.specs.Option.{unwrap_or}
 use Rattle.rand_pcg.specs.Lcg.{Lcg}
 use Rattle.rely_kernel.specs.declared.setting.Store.{Store}
@@ -31,10 +31,10 @@ pub record Steps (p : ℕ) (right : ℤ) (t : Counts) (g : Lcg) (z : ℤ) (t' : 
   pub counts : t' ≡ with_step t (draw p g).taken
   pub words : g' ≡ (draw p g).words
 
--- one step would be too many, and no word was taken
-pub record IsFull (t : Counts) (g g' : Lcg) : Type 0 where
+-- one step more would reach the limit
+pub record IsFull (t : Counts) : Type 0 where
+  pub below : t.steps < t.limit
   pub many : t.limit ≤ t.steps + 1
-  pub same : g' ≡ g
 
 -- ---- trials
 
@@ -53,12 +53,12 @@ pub record Stands (r : Running) (x : Trying) (d : Config) (a : Point) : Type 0 w
   pub leads : trial_after r.kernel.now r.hardware.now r.setting.now n x ≡ record { config = d; words = a.words; taken = a.counts.taken }
   pub steps : a.counts.steps ≡ trial_steps r.kernel.now r.hardware.now r.setting.now n x
 
--- some steps of the trial from x leave the generator so, and some count up to the limit or beyond
+-- the first n steps of the trial from x count less than the limit, but one more would not; they leave the generator so
 pub record Ends (r : Running) (x : Trying) (limit : ℕ) (g : Lcg) : Type 0 where
   pub n : ℕ
   pub words : (trial_after r.kernel.now r.hardware.now r.setting.now n x).words ≡ g
-  pub m : ℕ
-  pub steps : limit ≤ trial_steps r.kernel.now r.hardware.now r.setting.now m x
+  pub before : trial_steps r.kernel.now r.hardware.now r.setting.now n x < limit
+  pub reached : limit ≤ trial_steps r.kernel.now r.hardware.now r.setting.now (suc n) x
 
 -- what is to do, over whatever else is to do
 abbrev pub standing : List Item → List ℤ → Store → Config
@@ -76,7 +76,7 @@ pub record Runs (r : Running) (items : List Item → List Item) (finds leaves : 
   pub goes : (x : Trying) (more : List Item) (stack : List ℤ)
       → Stands r x (standing (items more) (finds stack) a.store) a → Stands r x (standing more (leaves stack) b.store) b
 
--- wherever a trial stands before the items, it takes as many steps as its limit or more, and g is left
+-- wherever a trial stands before the items, it reaches its limit, and g is left
 pub record Exceeds (r : Running) (items : List Item → List Item) (finds : List ℤ → List ℤ) (a : Point) (g : Lcg) : Type 0 where
   pub ends : (x : Trying) (more : List Item) (stack : List ℤ)
       → Stands r x (standing (items more) (finds stack) a.store) a → Ends r x a.counts.limit g

@@ -1,5 +1,5 @@
 -- A trial: a run whose chance steps are right or wrong by the words of a generator.
-use Rattle.std.specs.Prelude.{◌≡◌, ℕ, zero, suc, ◌+◌, ◌%◌, ◌≤◌, ℤ, List, [], ◌∷◌, drop, sum_by, Option, Some, None, nat_lt, ◌==◌, if◌then◌else◌}
+use Rattle.std.specs.Prelude.{◌≡◌, ℕ, zero, suc, ◌+◌, ◌%◌, ◌<◌, ◌≤◌, ℤ, List, [], ◌∷◌, drop, sum_by, Option, Some, None, nat_lt, ◌==◌, if◌then◌else◌}
 use Rattle.std.specs.Int.{w64, cast_signed}
 use Rattle.rand_pcg.specs.Lcg.{Lcg}
 use Rattle.rand_pcg.specs.Pcg.{pcg64}
@@ -116,6 +116,13 @@ pub record IsTried (k : Kernel) (h : Hardware) (t : Setting) (start : Store) (wo
 pub record PassesLimit (k : Kernel) (h : Hardware) (t : Setting) (start : Store) (words : Lcg) (limit : ℕ) : Type 0 where
   pub n : ℕ
   pub steps : limit ≤ trial_steps k h t n (first k start words)
+
+-- the first n steps count less than the limit, but one more would not, and the generator is left so before it
+pub record StopsAt (k : Kernel) (h : Hardware) (t : Setting) (start : Store) (words : Lcg) (limit : ℕ) (left : Lcg) : Type 0 where
+  pub n : ℕ
+  pub words_left : (trial_after k h t n (first k start words)).words ≡ left
+  pub before : 0 < n → trial_steps k h t n (first k start words) < limit
+  pub reached : limit ≤ trial_steps k h t (suc n) (first k start words)
 
 -- some steps of the trial leave the generator so
 pub record LeavesWords (k : Kernel) (h : Hardware) (t : Setting) (start : Store) (words left : Lcg) : Type 0 where

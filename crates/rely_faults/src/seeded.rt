@@ -3,7 +3,7 @@ ghost use Rattle.rely_hard.specs.Valid.{IsHardware};
 ghost use Rattle.rely_kernel.specs.Bound.{IsStart};
 ghost use Rattle.rely_kernel.specs.Setting.{Fits};
 ghost use Rattle.rely_kernel.specs.Valid.{IsValid};
-ghost use Rattle.rely_faults.specs.Trial.{IsTried, LeavesWords, PassesLimit};
+ghost use Rattle.rely_faults.specs.Trial.{IsTried, LeavesWords, PassesLimit, StopsAt};
 ghost use Rattle.rely_machine.specs.declared.fault.RunFault.TheVariants as fault;
 
 use crate::Tried;
@@ -41,6 +41,7 @@ pub fn trial(
     ensures ok { IfOk result (λ o. IsTried k.now h.now t.now start.now words.old o words.new) }
     ensures below { IfOk result (λ o. o.steps < limit) }
     ensures steps { result ≡ Err fault.Steps → PassesLimit k.now h.now t.now start.now words.old limit }
+    ensures stopped { result ≡ Err fault.Steps → StopsAt k.now h.now t.now start.now words.old limit words.new }
     ensures refused { OnErr result (LeavesWords k.now h.now t.now start.now words.old words.new) }
 {
     let mut tally = Tally::new(limit)?;

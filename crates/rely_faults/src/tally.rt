@@ -48,7 +48,7 @@ impl Tally {
     pub fn walk(&mut self) -> Result<(), RunFault>
         ensures ok { OnOk result (self.new ≡ with_step self.old 0) }
         ensures room { OnOk result (self.new.taken + 2 ≤ 2 * self.new.steps) }
-        ensures full { OnErr result (self.old.limit ≤ self.old.steps + 1) }
+        ensures full { OnErr result (IsFull self.old) }
     {
         if self.limit - self.steps <= 1 {
             return Err(RunFault::Steps);
@@ -65,7 +65,8 @@ impl Tally {
         words: &mut Lcg128Xsl64,
     ) -> Result<i64, RunFault>
         ensures ok { IfOk result (λ z. Steps p right self.old words.old z self.new words.new) }
-        ensures full { OnErr result (IsFull self.old words.old words.new) }
+        ensures full { OnErr result (IsFull self.old) }
+        ensures untaken { OnErr result (words.new ≡ words.old) }
     {
         self.walk()?;
         let drawn = draw(p, words);

@@ -1,4 +1,4 @@
-use Rattle.rely_faults.proofs.Ending.{alone_fine, at_once, leaves, leaves_at_end, passes, tried_is, untouched}
+use Rattle.rely_faults.proofs.Ending.{alone_fine, at_once, leaves, leaves_at_end, passes, stops, stops_at_once, tried_is, untouched}
 use Rattle.rely_faults.proofs.Walking.{on_err}
 use Rattle.rely_faults.proofs.seeded.trial.Goals as goal
 
@@ -32,3 +32,10 @@ returns-clause-ok c = tried_is (record { kernel = c.args.k; hardware = c.args.h;
     c.in_ok-tally.tally c.in_ok-tally.ensures.ok c.in_ok-held.held c.in_ok-held.ensures c.body.result.now c.body.ensures
     c.block.new.held c.block.new.tally c.block.new.words c.in_ok-block.ensures.runs
     (record { store = c.in_ok-into_store.field-0; steps = c.steps.result; words = c.words.result }) c.in_ok-into_store.ensures c.steps.ensures.is c.words.ensures
+
+pub returns-in_err-tally-clause-stopped : goal.returns-in_err-tally-clause-stopped
+returns-in_err-tally-clause-stopped c = λ is. stops_at_once (record { kernel = c.args.k; hardware = c.args.h; setting = c.args.t }) c.args.start.now c.args.words.now c.args.limit c.in_err-tally.ensures.steps
+
+pub returns-in_err-block-clause-stopped : goal.returns-in_err-block-clause-stopped
+returns-in_err-block-clause-stopped c = λ is. stops (record { kernel = c.args.k; hardware = c.args.h; setting = c.args.t }) c.args.start.now c.args.words.now c.args.limit
+    c.in_ok-tally.tally c.in_ok-tally.ensures.ok c.in_ok-held.held c.in_ok-held.ensures c.body.result.now c.body.ensures c.block.new.words c.in_err-block.ensures.exceeds

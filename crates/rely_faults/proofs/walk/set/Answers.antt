@@ -13,7 +13,7 @@ pub write_rate-requires-clause-known : goal.write_rate-requires-clause-known
 write_rate-requires-clause-known c = scalar_below c.args.r.now.kernel.now c.args.v c.requires.fits.0
 
 pub returns-in_err-z-clause-exceeds : goal.returns-in_err-z-clause-exceeds
-returns-in_err-z-clause-exceeds c = on_err c.from_residual-in_err-z.result (set_stops c.args.r.now c.args.held.now c.args.tally.now c.args.words.now c.args.v (expr_of c.args.e.now) c.requires.fits c.in_ok-right.right c.in_ok-right.ensures.runs c.in_err-z.ensures.full)
+returns-in_err-z-clause-exceeds c = on_err c.from_residual-in_err-z.result (set_stops c.args.r.now c.args.held.now c.args.tally.now c.args.words.now c.args.v (expr_of c.args.e.now) c.requires.fits c.in_ok-right.right c.in_ok-right.ensures.runs c.in_err-z.ensures.full c.in_err-z.ensures.untaken)
 
 pub write-requires : goal.write-requires
 write-requires c = scalar_long c.args.r.now.kernel.now c.args.held.now c.args.v c.requires.running.shape c.requires.fits.0

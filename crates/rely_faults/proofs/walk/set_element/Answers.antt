@@ -16,7 +16,7 @@ pub write_rate-requires-clause-known : goal.write_rate-requires-clause-known
 write_rate-requires-clause-known c = array_below c.args.r.now.kernel.now c.args.a c.requires.fits.0
 
 pub returns-in_err-z-clause-exceeds : goal.returns-in_err-z-clause-exceeds
-returns-in_err-z-clause-exceeds c = on_err c.from_residual-in_err-z.result (element_stops c.args.r.now c.args.held.now c.args.tally.now c.args.words.now c.args.a (expr_of c.args.index.now) (expr_of c.args.e.now) c.requires.fits c.in_ok-i.i c.in_ok-right.right c.in_ok-i.ensures.runs c.in_ok-right.ensures.runs c.in_err-z.ensures.full)
+returns-in_err-z-clause-exceeds c = on_err c.from_residual-in_err-z.result (element_stops c.args.r.now c.args.held.now c.args.tally.now c.args.words.now c.args.a (expr_of c.args.index.now) (expr_of c.args.e.now) c.requires.fits c.in_ok-i.i c.in_ok-right.right c.in_ok-i.ensures.runs c.in_ok-right.ensures.runs c.in_err-z.ensures.full c.in_err-z.ensures.untaken)
 
 pub write_at-requires : goal.write_at-requires
 write_at-requires c = array_there c.args.r.now.kernel.now c.args.held.now c.args.a c.requires.running.shape c.requires.fits.0
