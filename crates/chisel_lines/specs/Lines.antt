@@ -175,4 +175,5 @@ refusal_line (refusal.Parse fault) = source_line (parse_reason fault) (parse_pla
 refusal_line (refusal.Hardware fault) = hard_line fault
 refusal_line (refusal.Name fault) = source_line (name_reason fault) (name_place fault)
 refusal_line (refusal.Mark place) = source_line (codes "mark") place
+refusal_line (refusal.Trials place) = source_line (codes "trials") place
 refusal_line (refusal.Inputs fault) = input_line fault

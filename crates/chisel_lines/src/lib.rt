@@ -13,4 +13,4 @@ pub use reason::{
     walk_place, walk_reason, why_text,
 };
 pub use refusal::Refusal;
-pub use sample::{energy_line, sample_lines};
+pub use sample::{SampleEnd, energy_line, sample_lines};

@@ -13,5 +13,7 @@ pub enum Refusal {
     Name(NameFault),
     /// The place of a kind or a memory that is left open.
     Mark(u32),
+    /// The place of the first call of a function that trials are asked of.
+    Trials(u32),
     Inputs(InputFault),
 }

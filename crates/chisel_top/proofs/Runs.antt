@@ -160,9 +160,9 @@ cause (Unread name) text s a = subst (λ t. IsCause (Unread name) t) (sym a.1) t
 cause (TooLong name limit) text s a = subst (λ t. IsCause (TooLong name limit) t) (sym a.1) (inl (name, limit, refl))
 cause (Refused r) text s a = subst (λ t. IsCause (Refused r) t) (sym a.1) (r, refl)
 cause (Judging r wanted) text s a = subst (λ t. IsCause (Judging r wanted) t) (sym a.1) (judged_cause r wanted (judged r wanted) refl)
-cause (Running r starts) text s a = elim a [
-  | inl told ↦ subst (λ t. IsCause (Running r starts) t) (sym told.1) (inr (r, starts, text, refl, told.0))
-  | inr past ↦ subst (λ t. IsCause (Running r starts) t) (sym past.1.1) (inr (inr (r, starts, refl, past.0)))
+cause (Running r trials starts) text s a = elim a [
+  | inl told ↦ subst (λ t. IsCause (Running r trials starts) t) (sym told.1) (inr (r, trials, starts, text, refl, told.0))
+  | inr past ↦ subst (λ t. IsCause (Running r trials starts) t) (sym past.1.1) (inr (inr (r, trials, starts, refl, past.0)))
 ]
 
 -- a status that a device or memory gives has no cause in the files

@@ -28,8 +28,8 @@ IsAnswer (Unread name) text s = Both text s (read_line name) status.ReadFault
 IsAnswer (TooLong name limit) text s = Both text s (length_line name limit) status.Limit
 IsAnswer (Refused r) text s = Both text s (refusal_line r) status.Text
 IsAnswer (Judging r wanted) text s = Both text s (printed_text (judged r wanted)) (printed_status (judged r wanted))
-IsAnswer (Running r starts) text s =
-    (RunsTell r starts text × (s ≡ status.Done)) ⊎ (RunsPass r.linked starts × Both text s steps_line status.Limit)
+IsAnswer (Running r trials starts) text s =
+    (RunsTell r trials starts text × (s ≡ status.Done)) ⊎ (RunsPass r trials starts × Both text s steps_line status.Limit)
 
 -- a finding has one answer
 abbrev pub OneAnswer : Type 0

@@ -1,4 +1,5 @@
 pub mod Answer
+pub mod Courses
 pub mod Findings
 pub mod Promises
 pub mod Simulations

@@ -30,7 +30,7 @@ fn walk_refused<'w>(fault: PreFault) -> Fault<'w>
 }
 
 /// The setting of a kernel that leaves no place open.
-fn own_kinds(alloc: Global, k: &Kernel) -> Result<Setting, AllocError>
+pub(crate) fn own_kinds(alloc: Global, k: &Kernel) -> Result<Setting, AllocError>
     requires { IsClosed k.now }
     ensures { IfOk result (λ t. t ≡ own k.now) }
 {

@@ -2,6 +2,7 @@
 #![tactic(auto)]
 
 mod claims;
+mod course;
 mod fault;
 mod fetch;
 mod front;
@@ -9,6 +10,7 @@ mod laws;
 mod printed;
 mod program;
 mod ready;
+mod samples;
 mod simulate;
 mod status;
 mod tell;

@@ -9,7 +9,7 @@ abbrev pub to_verify : VerifyWords → Verify
 to_verify w = record { source = w.source.now; hardware = w.hardware.now; function = w.function.now; callees = w.callees }
 
 abbrev pub to_run : RunWords → Simulate
-to_run w = record { source = w.source.now; hardware = w.hardware.now; inputs = w.inputs.now; function = w.function.now }
+to_run w = record { source = w.source.now; hardware = w.hardware.now; inputs = w.inputs.now; function = w.function.now; trials = w.trials }
 
 abbrev pub asked_by : Asked → Command
 asked_by (asked.Verify w) = ToVerify (to_verify w)

@@ -2,6 +2,8 @@
 //! The layer above uses `read`, which answers exactly the forms of the definitions.
 #![tactic(auto)]
 
+mod options;
 mod words;
 
+pub use options::Trials;
 pub use words::{Asked, RunWords, VerifyWords, read};

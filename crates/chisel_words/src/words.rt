@@ -1,9 +1,10 @@
 //! The words of a command line.
 
 ghost use Rattle.std.specs.Prelude.{◌≡◌, option_map, map};
-ghost use Rattle.chisel_words.specs.Words.{form, verify_form, run_form, callees_of, is_plain};
+ghost use Rattle.chisel_words.specs.Words.{form, is_plain, run_form, verify_form};
 ghost use Rattle.chisel_words.specs.Asked.{asked_by};
 
+use crate::options::{Trials, callees, trials_of};
 use chisel_outside::Arg;
 
 /// What `verify` is asked.
@@ -23,6 +24,8 @@ pub struct RunWords<'w> {
     pub hardware: &'w str,
     pub inputs: &'w str,
     pub function: &'w str,
+    /// What follows each reliable run.
+    pub trials: Trials,
 }
 
 /// A command with its words.
@@ -38,16 +41,6 @@ fn is_plain(word: &str) -> bool
     match word.as_bytes() {
         [] => false,
         [first, ..] => *first != b'-',
-    }
-}
-
-fn callees(options: &[Arg]) -> Option<bool>
-    ensures { result ≡ callees_of options.now }
-{
-    match options {
-        [] => Some(false),
-        [option] if option.as_str() == "--callees" => Some(true),
-        _ => None,
     }
 }
 
@@ -76,7 +69,7 @@ fn verify_words(words: &[Arg]) -> Option<Asked<'_>>
 fn run_words(words: &[Arg]) -> Option<Asked<'_>>
     ensures { option_map asked_by result ≡ run_form words.now }
 {
-    let [source, hardware, inputs, function] = words else {
+    let [source, hardware, inputs, function, options @ ..] = words else {
         return None;
     };
     let source = source.as_str();
@@ -84,11 +77,13 @@ fn run_words(words: &[Arg]) -> Option<Asked<'_>>
     let inputs = inputs.as_str();
     let function = function.as_str();
     if is_plain(source) && is_plain(hardware) && is_plain(inputs) && is_plain(function) {
+        let trials = trials_of(options)?;
         Some(Asked::Run(RunWords {
             source,
             hardware,
             inputs,
             function,
+            trials,
         }))
     } else {
         None
