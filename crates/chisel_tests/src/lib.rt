@@ -8,4 +8,6 @@ mod outside;
 #[cfg(test)]
 mod simulate;
 #[cfg(test)]
+mod trials;
+#[cfg(test)]
 mod verify;

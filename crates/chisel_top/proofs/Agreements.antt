@@ -9,13 +9,13 @@ use Rattle.chisel_outside.specs.declared.shelf.Fetched.{Fetched}
 use Rattle.chisel_outside.specs.declared.shelf.Fetched.TheVariants.{Whole, Longer, Failed, Memory}
 use Rattle.chisel_top.specs.declared.fault.Fault.{Fault}
 use Rattle.chisel_top.specs.declared.fault.Fault.TheVariants as fault
-use Rattle.chisel_top.specs.declared.fault.Refusal.{Refusal}
+use Rattle.chisel_lines.specs.declared.refusal.Refusal.{Refusal}
 use Rattle.chisel_top.specs.declared.fault.Written.{Written}
 use Rattle.chisel_top.specs.declared.printed.Printed.{Printed}
 use Rattle.chisel_top.specs.declared.ready.Ready.{Ready}
 use Rattle.chisel_top.specs.declared.status.Status.TheVariants as status
 use Rattle.chisel_top.specs.Answer.{IsAnswer, printed_text, printed_status}
-use Rattle.chisel_top.specs.Lines.{length_line, refusal_line, walk_line}
+use Rattle.chisel_lines.specs.Lines.{length_line, refusal_line, walk_line}
 use Rattle.chisel_top.specs.Findings.{Finding, TooLong, Judging, ◌>>=◌, either, found_by, opened}
 use Rattle.chisel_top.specs.Steps.{Agrees, FaultIs, IsFetch, IsInner, NotWords, Refuses, bytes_of}
 use Rattle.chisel_top.specs.Verdicts.{judged, status_on}

@@ -31,7 +31,8 @@ use Rattle.chisel_top.specs.declared.ready.Ready.{Ready}
 use Rattle.chisel_top.specs.Findings.{◌>>=◌}
 use Rattle.chisel_top.specs.Promises.{AcceptedHold, Near, UndecidedNear}
 use Rattle.chisel_top.specs.Steps.{IsReady}
-use Rattle.chisel_top.specs.Verdicts.{after_callee, callee_line, callee_line_on, callees_after, in_use_from, is_accepted, judgement, limit_of, unless_limited, verdict_on}
+use Rattle.chisel_lines.specs.ClaimLines.{callee_line}
+use Rattle.chisel_top.specs.Verdicts.{after_callee, callee_line_on, callees_after, in_use_from, is_accepted, judgement, limit_of, unless_limited, verdict_on}
 
 -- ---- the claim in use
 

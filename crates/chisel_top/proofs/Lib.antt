@@ -6,5 +6,5 @@ pub mod OneAnswers
 pub mod ParsedUnits
 pub mod Readiness
 pub mod Runs
-pub mod Simulating
+pub mod Sampling
 pub mod Tellings

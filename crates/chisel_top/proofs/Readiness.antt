@@ -25,14 +25,14 @@ use Rattle.rely_kernel.specs.Valid.{IsValid}
 use Rattle.rely_resolve.specs.Limits.{IsUnit}
 use Rattle.rely_resolve.specs.Linked.{linked_of}
 use Rattle.rely_resolve.specs.declared.fault.NameFault.{NameFault}
-use Rattle.chisel_top.specs.declared.fault.Refusal.{Refusal}
-use Rattle.chisel_top.specs.declared.fault.Refusal.TheVariants as refusal
+use Rattle.chisel_lines.specs.declared.refusal.Refusal.{Refusal}
+use Rattle.chisel_lines.specs.declared.refusal.Refusal.TheVariants as refusal
 use Rattle.chisel_top.specs.declared.ready.Meant.{Meant}
 use Rattle.chisel_top.specs.declared.ready.Ready.{Ready}
-use Rattle.chisel_top.specs.Findings.{Files, Finding, TooLong, ◌>>=◌, asked, earlier, either, finding, found_by, longest, longest_inputs, meant_in, meant_of, open_place, open_place_in, opened, ready_by, ready_of, refused_by, starts_in, unit_in, unless_open}
+use Rattle.chisel_top.specs.Findings.{Files, Finding, TooLong, ◌>>=◌, asked, barred_call, earlier, either, finding, found_by, longest, longest_inputs, meant_in, meant_of, open_place, open_place_in, opened, ready_by, ready_of, refused_by, starts_in, unit_in, unless_barred, unless_open}
 use Rattle.chisel_top.specs.Promises.{AcceptedHold, OnJudged, UndecidedNear}
 use Rattle.chisel_top.specs.Steps.{AreSound, IsMeant, IsReady}
-use Rattle.chisel_top.specs.Words.{Command, ToVerify, ToRun, form}
+use Rattle.chisel_words.specs.Words.{Command, ToVerify, ToRun, form}
 use Rattle.chisel_top.proofs.Headline.{accepted_hold, undecided_near}
 use Rattle.chisel_top.proofs.ParsedUnits.{parsed_unit}
 use Rattle.rely_resolve.proofs.ValidLinked.{linked_valid, linked_on}
@@ -253,8 +253,9 @@ module _ (P : Ready → Type 0) (each : (r : Ready) → IsReady r → P r) where
       (λ r e. each r (ready_sound v.source v.hardware v.function files r e))
   asked_hold (Some (ToRun w)) files =
       either_then P (ready_of w.source w.hardware w.function files) _ (ready_plain P w.source w.hardware w.function files) (λ r e.
+      either_then P (found_by (unless_barred (barred_call w.trials r.linked.kernel) r)) _ (found_plain P (unless_barred (barred_call w.trials r.linked.kernel) r)) (λ r b.
       either_then P (opened w.inputs longest_inputs (files w.inputs)) _ (opened_plain P w.inputs longest_inputs (files w.inputs)) (λ bytes f.
-      either_then P (found_by (starts_in r.linked.kernel bytes)) _ (found_plain P (starts_in r.linked.kernel bytes)) (λ starts g. tt)))
+      either_then P (found_by (starts_in r.linked.kernel bytes)) _ (found_plain P (starts_in r.linked.kernel bytes)) (λ starts g. tt))))
 
 -- the bound of each claim that is accepted holds
 pub all_accepted_hold : (words : List Bytes) (files : Files) → OnJudged AcceptedHold (finding words files)

@@ -14,13 +14,13 @@ use Rattle.chisel_top.specs.declared.status.Status.{Status}
 use Rattle.chisel_top.specs.declared.status.Status.TheVariants as status
 use Rattle.chisel_top.specs.Answer.{IsAnswer, printed_status}
 use Rattle.chisel_top.specs.Findings.{Files, Finding, NoForm, Unread, TooLong, Refused, Judging, Running, finding}
-use Rattle.chisel_top.specs.Lines.{read_line, memory_line}
+use Rattle.chisel_lines.specs.Lines.{read_line, memory_line}
 use Rattle.chisel_top.specs.Promises.{Tells, Wrote, WroteFront, Counts, FailedLast, FetchesInOrder, IsCause, IsOwed, EndsWithoutForm, IsReport, JudgedAs, is_marked, outcome_text, outcome_status}
 use Rattle.chisel_top.specs.Statuses.{IsFree}
 use Rattle.chisel_top.specs.Steps.{Agrees, IsAsked, IsForm, IsGrade, Marks, Fetching}
 use Rattle.chisel_top.specs.Telling.{Delivers}
 use Rattle.chisel_top.specs.Verdicts.{judged, status_on, is_refused, is_undecided}
-use Rattle.chisel_top.specs.Words.{Command, form, files_of}
+use Rattle.chisel_words.specs.Words.{Command, form, files_of}
 
 -- ---- statuses
 
@@ -160,9 +160,9 @@ cause (Unread name) text s a = subst (λ t. IsCause (Unread name) t) (sym a.1) t
 cause (TooLong name limit) text s a = subst (λ t. IsCause (TooLong name limit) t) (sym a.1) (inl (name, limit, refl))
 cause (Refused r) text s a = subst (λ t. IsCause (Refused r) t) (sym a.1) (r, refl)
 cause (Judging r wanted) text s a = subst (λ t. IsCause (Judging r wanted) t) (sym a.1) (judged_cause r wanted (judged r wanted) refl)
-cause (Running r starts) text s a = elim a [
-  | inl told ↦ subst (λ t. IsCause (Running r starts) t) (sym told.1) (inr (r, starts, text, refl, told.0))
-  | inr past ↦ subst (λ t. IsCause (Running r starts) t) (sym past.1.1) (inr (inr (r, starts, refl, past.0)))
+cause (Running r trials starts) text s a = elim a [
+  | inl told ↦ subst (λ t. IsCause (Running r trials starts) t) (sym told.1) (inr (r, trials, starts, text, refl, told.0))
+  | inr past ↦ subst (λ t. IsCause (Running r trials starts) t) (sym past.1.1) (inr (inr (r, trials, starts, refl, past.0)))
 ]
 
 -- a status that a device or memory gives has no cause in the files

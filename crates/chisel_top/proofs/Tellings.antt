@@ -13,7 +13,7 @@ use Rattle.chisel_top.specs.declared.status.Status.{Status}
 use Rattle.chisel_top.specs.declared.status.Status.TheVariants as status
 use Rattle.rely_inputs.specs.declared.fault.InputFault.TheVariants.{At as Refused}
 use Rattle.rely_inputs.specs.declared.fault.InputWhy.{InputWhy}
-use Rattle.chisel_top.specs.Lines.{why_text, key_text, hard_line, lack_text, input_line}
+use Rattle.chisel_lines.specs.Lines.{why_text, key_text, hard_line, lack_text, input_line}
 use Rattle.chisel_top.specs.Promises.{Wrote}
 use Rattle.chisel_top.specs.Telling.{joined, Delivers}
 

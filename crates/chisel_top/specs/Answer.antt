@@ -5,7 +5,7 @@ use Rattle.rely_precond.specs.declared.fault.PreFault.{PreFault}
 use Rattle.chisel_top.specs.declared.status.Status.{Status}
 use Rattle.chisel_top.specs.declared.status.Status.TheVariants as status
 use Rattle.chisel_top.specs.Findings.{Finding, NoForm, Unread, TooLong, Refused, Judging, Running}
-use Rattle.chisel_top.specs.Lines.{words_line, read_line, length_line, refusal_line, walk_line, steps_line}
+use Rattle.chisel_lines.specs.Lines.{words_line, read_line, length_line, refusal_line, walk_line, steps_line}
 use Rattle.chisel_top.specs.Simulations.{RunsTell, RunsPass}
 use Rattle.chisel_top.specs.Verdicts.{judged, status_on}
 use Rattle.chisel_top.specs.declared.printed.Printed.{Printed}
@@ -28,8 +28,8 @@ IsAnswer (Unread name) text s = Both text s (read_line name) status.ReadFault
 IsAnswer (TooLong name limit) text s = Both text s (length_line name limit) status.Limit
 IsAnswer (Refused r) text s = Both text s (refusal_line r) status.Text
 IsAnswer (Judging r wanted) text s = Both text s (printed_text (judged r wanted)) (printed_status (judged r wanted))
-IsAnswer (Running r starts) text s =
-    (RunsTell r starts text × (s ≡ status.Done)) ⊎ (RunsPass r.linked starts × Both text s steps_line status.Limit)
+IsAnswer (Running r trials starts) text s =
+    (RunsTell r trials starts text × (s ≡ status.Done)) ⊎ (RunsPass r trials starts × Both text s steps_line status.Limit)
 
 -- a finding has one answer
 abbrev pub OneAnswer : Type 0

@@ -1,5 +1,5 @@
 -- What a command finds in its files, knowing nothing of memory or of a device that fails.
-use Rattle.std.specs.Prelude.{ℕ, Bool, nat_lt, min, List, [], ◌∷◌, length, fold, Option, Some, None, Result, Ok, Err, if◌then◌else◌}
+use Rattle.std.specs.Prelude.{ℕ, Bool, nat_lt, min, ◌==◌, List, [], ◌∷◌, length, fold, slice_get, Option, Some, None, option_map, Result, Ok, Err, if◌then◌else◌}
 use Rattle.std.specs.Option.{option_or}
 use Rattle.rely_num.specs.Texts.{Bytes}
 use Rattle.rely_num.specs.declared.span.Span.{Span}
@@ -15,9 +15,10 @@ use Rattle.rely_resolve.specs.Linked.{linked_of}
 use Rattle.rely_inputs.specs.Samples.{samples_of}
 use Rattle.chisel_top.specs.declared.ready.Meant.{Meant}
 use Rattle.chisel_top.specs.declared.ready.Ready.{Ready}
-use Rattle.chisel_top.specs.declared.fault.Refusal.{Refusal}
-use Rattle.chisel_top.specs.declared.fault.Refusal.TheVariants as refusal
-use Rattle.chisel_top.specs.Words.{Command, ToVerify, ToRun, form}
+use Rattle.chisel_lines.specs.declared.refusal.Refusal.{Refusal}
+use Rattle.chisel_lines.specs.declared.refusal.Refusal.TheVariants as refusal
+use Rattle.chisel_words.specs.declared.options.Trials.{Trials}
+use Rattle.chisel_words.specs.Words.{Command, ToVerify, ToRun, form}
 
 -- the files by name: their bytes, or none where there is no such file
 abbrev pub Files : Type 0
@@ -34,8 +35,8 @@ pub data Finding : Type 0 where
   Refused : Refusal → Finding
   -- the claims are judged, and the lines of the functions that are called are wanted or not
   Judging : Ready → Bool → Finding
-  -- the function is run from these starts
-  Running : Ready → List Store → Finding
+  -- the function is run from these starts, with these trials behind each reliable run
+  Running : Ready → Trials → List Store → Finding
 
 -- ---- one step after another
 
@@ -115,6 +116,14 @@ ready_of source hardware function files =
 
 -- ---- what is found
 
+-- the place of the first call of a function, where trials are asked of it
+abbrev pub barred_call : Trials → Kernel → Option ℕ
+barred_call trials k = if trials.count == 0 then None else option_map (λ site. site.mark.from) (slice_get k.calls 0)
+
+abbrev pub unless_barred : {A : Type 0} → Option ℕ → A → Result A Refusal
+unless_barred None a = Ok a
+unless_barred (Some place) a = Err (refusal.Trials place)
+
 -- the sample inputs of these bytes
 abbrev pub starts_in : Kernel → Bytes → Result (List Store) Refusal
 starts_in k bytes = refused_by refusal.Inputs (samples_of k bytes)
@@ -128,8 +137,9 @@ asked None files = NoForm
 asked (Some (ToVerify v)) files = either (ready_of v.source v.hardware v.function files >>= λ r. Ok (Judging r v.callees))
 asked (Some (ToRun w)) files =
     either (ready_of w.source w.hardware w.function files >>= λ r.
+    found_by (unless_barred (barred_call w.trials r.linked.kernel) r) >>= λ r.
     opened w.inputs longest_inputs (files w.inputs) >>= λ bytes.
-    found_by (starts_in r.linked.kernel bytes) >>= λ starts. Ok (Running r starts))
+    found_by (starts_in r.linked.kernel bytes) >>= λ starts. Ok (Running r w.trials starts))
 
 abbrev pub finding : List Bytes → Files → Finding
 finding words files = asked (form words) files

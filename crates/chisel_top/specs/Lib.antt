@@ -1,11 +1,9 @@
 pub mod Answer
-pub mod Asked
+pub mod Courses
 pub mod Findings
-pub mod Lines
 pub mod Promises
 pub mod Simulations
 pub mod Statuses
 pub mod Steps
 pub mod Telling
 pub mod Verdicts
-pub mod Words

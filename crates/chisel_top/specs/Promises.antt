@@ -18,18 +18,19 @@ use Rattle.rely_verdict.specs.declared.verdict.Verdict.TheVariants.{Accepted}
 use Rattle.chisel_top.specs.declared.fault.Fault.{Fault}
 use Rattle.chisel_top.specs.declared.fault.Fault.TheVariants as fault
 use Rattle.chisel_top.specs.declared.ready.Ready.{Ready}
-use Rattle.chisel_top.specs.declared.fault.Refusal.{Refusal}
+use Rattle.chisel_lines.specs.declared.refusal.Refusal.{Refusal}
 use Rattle.chisel_top.specs.declared.fault.Written.{Written}
 use Rattle.chisel_top.specs.declared.status.Status.{Status}
 use Rattle.chisel_top.specs.declared.status.Status.TheVariants as status
 use Rattle.chisel_top.specs.Answer.{IsAnswer}
 use Rattle.chisel_top.specs.Findings.{Files, Finding, NoForm, TooLong, Refused, Judging, Running, finding}
-use Rattle.chisel_top.specs.Lines.{words_line, read_line, length_line, memory_line, refusal_line, walk_line, steps_line}
+use Rattle.chisel_lines.specs.Lines.{words_line, read_line, length_line, memory_line, refusal_line, walk_line, steps_line}
 use Rattle.chisel_top.specs.Simulations.{RunsTell, RunsPass}
 use Rattle.chisel_top.specs.Verdicts.{callees_after, judged, status_on, verdict_on}
 use Rattle.chisel_top.specs.declared.printed.Callees.TheVariants.{AllAccepted}
 use Rattle.chisel_top.specs.declared.printed.Printed.{Printed}
-use Rattle.chisel_top.specs.Words.{form, files_of}
+use Rattle.chisel_words.specs.declared.options.Trials.{Trials}
+use Rattle.chisel_words.specs.Words.{form, files_of}
 
 -- ---- the outside
 
@@ -80,20 +81,20 @@ pub record FetchesInOrder (words : List Bytes) (old new : Log) (result : Status)
 abbrev pub JudgedAs : Status → Finding → Type 0
 JudgedAs s f = (r : Ready) × (wanted : Bool) × (p : Printed) × (f ≡ Judging r wanted) × (judged r wanted ≡ Ok p) × (status_on p.verdicts ≡ s)
 
--- the samples are run, within the limit on steps
+-- the samples are run, with their trials, within the limit on steps
 abbrev pub IsRunToEnd : Finding → Type 0
-IsRunToEnd f = (r : Ready) × (starts : List Store) × (text : Bytes) × (f ≡ Running r starts) × RunsTell r starts text
+IsRunToEnd f = (r : Ready) × (trials : Trials) × (starts : List Store) × (text : Bytes) × (f ≡ Running r trials starts) × RunsTell r trials starts text
 
 -- the files are refused
 abbrev pub IsRefused : Finding → Type 0
 IsRefused f = (r : Refusal) × (f ≡ Refused r)
 
--- a file is too long, a walk reaches a limit, or the runs take too many steps
+-- a file is too long, a walk reaches a limit, or the runs and trials take too many steps
 abbrev pub IsPastLimit : Finding → Type 0
 IsPastLimit f =
     ((name : Bytes) × (limit : ℕ) × (f ≡ TooLong name limit))
     ⊎ (((r : Ready) × (wanted : Bool) × (limit : PreFault) × (f ≡ Judging r wanted) × (judged r wanted ≡ Err limit))
-    ⊎ ((r : Ready) × (starts : List Store) × (f ≡ Running r starts) × RunsPass r.linked starts))
+    ⊎ ((r : Ready) × (trials : Trials) × (starts : List Store) × (f ≡ Running r trials starts) × RunsPass r trials starts))
 
 -- what is found gives the status
 abbrev pub IsCause : Finding → Status → Type 0

@@ -28,7 +28,7 @@ use Rattle.chisel_top.specs.declared.fault.Fault.{Fault}
 use Rattle.chisel_top.specs.declared.fault.Fault.TheVariants as fault
 use Rattle.chisel_top.specs.declared.ready.Meant.{Meant}
 use Rattle.chisel_top.specs.declared.ready.Ready.{Ready}
-use Rattle.chisel_top.specs.declared.fault.Refusal.TheVariants as refusal
+use Rattle.chisel_lines.specs.declared.refusal.Refusal.TheVariants as refusal
 use Rattle.chisel_top.specs.declared.fault.Written.{Written}
 use Rattle.chisel_top.specs.declared.status.Status.{Status}
 use Rattle.chisel_top.specs.declared.status.Status.TheVariants as status
@@ -36,7 +36,7 @@ use Rattle.chisel_top.specs.Answer.{IsAnswer}
 use Rattle.chisel_top.specs.Findings.{Finding, TooLong, Refused}
 use Rattle.chisel_top.specs.Promises.{Gained, is_marked, outcome_text, outcome_status}
 use Rattle.chisel_top.specs.Statuses.{IsFree}
-use Rattle.chisel_top.specs.Words.{Command}
+use Rattle.chisel_words.specs.Words.{Command}
 
 -- ---- fetches
 

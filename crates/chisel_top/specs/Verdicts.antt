@@ -1,10 +1,7 @@
 -- The verdicts on the claims of a function and of those that it reaches, and their printed lines.
-use Rattle.std.specs.Prelude.{ℕ, ◌+◌, Bool, true, false, ◌==◌, List, [], ◌∷◌, ◌++◌, codes, decimal, length, slice_get, Option, Some, None, Result, Ok, Err, if◌then◌else◌}
+use Rattle.std.specs.Prelude.{ℕ, ◌+◌, Bool, true, false, ◌==◌, List, [], ◌∷◌, ◌++◌, length, Option, Some, None, Result, Ok, Err, if◌then◌else◌}
 use Rattle.std.specs.List.{list_any}
-use Rattle.std.specs.Option.{option_map_or}
-use Rattle.rely_num.specs.AttoTexts.{atto_text}
 use Rattle.rely_num.specs.Texts.{Bytes}
-use Rattle.rely_parser.specs.State.{word_at}
 use Rattle.rely_hard.specs.declared.hardware.Hardware.{Hardware}
 use Rattle.rely_kernel.specs.declared.kernel.Claim.{Claim}
 use Rattle.rely_kernel.specs.declared.kernel.Kernel.{Kernel}
@@ -17,6 +14,7 @@ use Rattle.rely_precond.specs.declared.fault.PreFault.TheVariants as walk
 use Rattle.rely_verdict.specs.declared.verdict.Verdict.{Verdict}
 use Rattle.rely_verdict.specs.declared.verdict.Verdict.TheVariants.{Needs, Below, Undecided, Accepted}
 use Rattle.rely_verdict.specs.Judged.{verdict}
+use Rattle.chisel_lines.specs.ClaimLines.{callee_line, line_on}
 use Rattle.chisel_top.specs.declared.ready.Ready.{Ready}
 use Rattle.chisel_top.specs.declared.status.Status.{Status}
 use Rattle.chisel_top.specs.declared.status.Status.TheVariants as status
@@ -65,20 +63,6 @@ status_on vs = if list_any is_refused vs then status.Refused else (if list_any i
 
 -- ---- lines
 
-abbrev pub variable_name : Kernel → ℕ → Bytes
-variable_name k v = option_map_or (λ x. x.name) (slice_get k.vars v) []
-
--- what a verdict says, before the bound
-abbrev pub said : Kernel → Verdict → Bytes
-said k (Needs v) = codes "needs " ++ variable_name k v
-said k (Below hi) = codes "below " ++ atto_text hi
-said k (Undecided lo hi) = codes "undecided " ++ atto_text lo ++ codes " " ++ atto_text hi
-said k (Accepted lo) = codes "accepted " ++ atto_text lo
-
--- the line of the claim with that number
-abbrev pub line_on : Kernel → ℕ → Claim → Verdict → Bytes
-line_on k i c v = codes "claim " ++ decimal i ++ codes " " ++ said k v ++ codes " " ++ atto_text c.bound ++ codes "\n"
-
 -- nothing printed yet
 abbrev pub nothing : Printed
 nothing = record { text = []; verdicts = [] }
@@ -98,10 +82,6 @@ lines_after h k p (c ∷ cs) = judgement h k c >>= λ v. lines_after h k (with_l
 abbrev pub in_use_from : ℕ → List Claim → Option (ℕ × Claim)
 in_use_from i [] = None
 in_use_from i (c ∷ cs) = if c.target == 63 then Some (i, c) else in_use_from (i + 1) cs
-
--- the line of a function's claim with that number
-abbrev pub callee_line : Bytes → Kernel → ℕ → Claim → Verdict → Bytes
-callee_line text k i c v = codes "callee " ++ word_at text k.name ++ codes " " ++ line_on k i c v
 
 -- the line of a function's claim in use, where it has one, and its verdict
 abbrev pub callee_line_on : Bytes → Hardware → Kernel → Option (ℕ × Claim) → Result (Option CalleeLine) PreFault

@@ -6,17 +6,16 @@ ghost use Rattle.rely_hard.specs.Valid.{IsHardware};
 ghost use Rattle.rely_kernel.specs.Rates.{own};
 ghost use Rattle.rely_kernel.specs.Setting.{Fits, IsClosed, IsOn};
 ghost use Rattle.rely_kernel.specs.Valid.{IsValid};
-ghost use Rattle.rely_parser.specs.State.{word_at};
 ghost use Rattle.chisel_top.specs.Steps.{Refuses, walk_refused};
-ghost use Rattle.chisel_top.specs.Verdicts.{callee_line, callee_line_on, callees_after, in_use_from, is_accepted, judgement, lines_after, nothing};
+ghost use Rattle.chisel_top.specs.Verdicts.{callee_line_on, callees_after, in_use_from, is_accepted, judgement, lines_after, nothing};
 ghost use Rattle.chisel_top.specs.declared.fault.Fault.TheVariants as fault;
 
 use crate::fault::Fault;
-use crate::line::line;
 use crate::printed::{CalleeLine, Callees, Printed};
+use chisel_lines::{callee_line, line};
 use rely_hard::Hardware;
 use rely_kernel::{Claim, Kernel, Setting, own_setting};
-use rely_num::{List, Span};
+use rely_num::List;
 use rely_precond::{PreFault, generate};
 use rely_verdict::{Verdict, judge};
 use std::alloc::{AllocError, Global};
@@ -31,7 +30,7 @@ fn walk_refused<'w>(fault: PreFault) -> Fault<'w>
 }
 
 /// The setting of a kernel that leaves no place open.
-fn own_kinds(alloc: Global, k: &Kernel) -> Result<Setting, AllocError>
+pub(crate) fn own_kinds(alloc: Global, k: &Kernel) -> Result<Setting, AllocError>
     requires { IsClosed k.now }
     ensures { IfOk result (λ t. t ≡ own k.now) }
 {
@@ -103,37 +102,6 @@ fn in_use(claims: &[Claim]) -> Option<(u32, &Claim)>
         }
     }
     None
-}
-
-/// The bytes of a span, none where it reaches outside the text.
-fn word_at(text: &[u8], span: Span) -> &[u8]
-    ensures { result.now ≡ word_at text.now span }
-{
-    let from = span.from as usize;
-    let to = span.to as usize;
-    if to < from || text.len() < to {
-        &[]
-    } else {
-        &text[from..to]
-    }
-}
-
-fn callee_line(
-    alloc: Global,
-    text: &[u8],
-    k: &Kernel,
-    number: u32,
-    claim: &Claim,
-    verdict: &Verdict,
-) -> Result<Vec<u8>, AllocError>
-    ensures { IfOk result (λ v. v.items ≡ callee_line text.now k.now number claim.now verdict.now) }
-{
-    let line = line(alloc, k, number, claim, verdict)?;
-    let mut whole = Vec::from_slice(alloc, b"callee ")?;
-    whole.extend_from_slice(word_at(text, k.name))?;
-    whole.extend_from_slice(b" ")?;
-    whole.extend_from_slice(line.as_slice())?;
-    Ok(whole)
 }
 
 /// The line of a function's claim in use, where it has one.

@@ -1,26 +1,10 @@
 //! Why a command has no answer, and what a command has to write.
 
 use crate::Status;
-use rely_hard::HardFault;
-use rely_inputs::InputFault;
-use rely_lexer::LexFault;
+use chisel_lines::Refusal;
 use rely_num::List;
-use rely_parser::ParseFault;
 use rely_precond::PreFault;
-use rely_resolve::NameFault;
 use std::alloc::{AllocError, AllocFailed};
-
-/// Why the files are refused.
-#[derive(Clone, Copy, Debug)]
-pub(crate) enum Refusal {
-    Lex(LexFault),
-    Parse(ParseFault),
-    Hardware(HardFault),
-    Name(NameFault),
-    /// The place of a kind or a memory that is left open.
-    Mark(u32),
-    Inputs(InputFault),
-}
 
 /// Why a command has no answer.
 #[derive(Clone, Copy, Debug)]

@@ -10,13 +10,14 @@ ghost use Rattle.rely_tree.specs.Shape.{unit_shape};
 ghost use Rattle.chisel_top.specs.Findings.{Files, meant_in, meant_of, open_place, open_place_in, ready_by, ready_of, refused_by, unit_in};
 ghost use Rattle.chisel_top.specs.Promises.{Tells};
 ghost use Rattle.chisel_top.specs.Steps.{Fetching, Finds, IsInner, IsMeant, IsReady, NotWords, Refuses, hard_refused, lex_refused, name_refused, parse_refused};
-ghost use Rattle.chisel_top.specs.declared.fault.Refusal.TheVariants as refusal;
+ghost use Rattle.chisel_lines.specs.declared.refusal.Refusal.TheVariants as refusal;
 ghost use Rattle.chisel_top.specs.declared.fault.Fault.TheVariants as fault;
 
-use crate::fault::{Fault, Refusal};
+use crate::fault::Fault;
 use crate::fetch::{LONGEST, fetch};
 use crate::ready::{Meant, Ready};
 use bumpalo::Bump;
+use chisel_lines::Refusal;
 use chisel_outside::Shelf;
 use rely_hard::{HardFault, Hardware};
 use rely_kernel::{Kernel, Linked, open_site};

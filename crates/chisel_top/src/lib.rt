@@ -2,20 +2,19 @@
 #![tactic(auto)]
 
 mod claims;
+mod course;
 mod fault;
 mod fetch;
 mod front;
 mod laws;
-mod line;
 mod printed;
 mod program;
 mod ready;
-mod reason;
+mod samples;
 mod simulate;
 mod status;
 mod tell;
 mod verify;
-mod words;
 
 pub use laws::one_answer;
 pub use program::run;

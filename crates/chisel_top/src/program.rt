@@ -3,19 +3,19 @@
 ghost use Rattle.std.specs.Prelude.{◌≡◌, ◌⊎◌, List, ℕ, None, false};
 ghost use Rattle.rely_num.specs.Texts.{Bytes};
 ghost use Rattle.chisel_top.specs.Findings.{Files, finding};
-ghost use Rattle.chisel_top.specs.Lines.{memory_line, read_line};
+ghost use Rattle.chisel_lines.specs.Lines.{memory_line, read_line};
 ghost use Rattle.chisel_top.specs.Promises.{AcceptedHold, Counts, EndsWithoutForm, FailedLast, FetchesInOrder, IsCause, IsOwed, IsReport, OnJudged, Tells, UndecidedNear, Wrote, WroteFront};
 ghost use Rattle.chisel_top.specs.Statuses.{IsFree};
 ghost use Rattle.chisel_top.specs.Steps.{Agrees, Fetching, IsForm};
-ghost use Rattle.chisel_top.specs.Words.{files_of, form};
+ghost use Rattle.chisel_words.specs.Words.{files_of, form};
 
 use crate::Status;
 use crate::fault::{Fault, Written};
 use crate::simulate::simulate;
 use crate::tell::tell;
 use crate::verify::verify;
-use crate::words::{self, Asked};
 use chisel_outside::{Arg, Shelf, Sink};
+use chisel_words::Asked;
 use std::alloc::Global;
 
 // What the command has to write, or why it has no answer.
@@ -29,7 +29,7 @@ fn outcome<'w, F: Shelf>(
     ensures agrees { (files : Files) → Tells (F.held shelf.old) files → Agrees result (finding words.now files) }
     ensures is_form { IsForm (form words.now) result }
 {
-    match words::read(words) {
+    match chisel_words::read(words) {
         None => Err(Fault::Words),
         Some(Asked::Verify(words)) => verify(alloc, words, shelf),
         Some(Asked::Run(words)) => simulate(alloc, words, shelf),

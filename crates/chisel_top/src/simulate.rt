@@ -1,34 +1,32 @@
 //! The command `run`.
 
-ghost use Rattle.std.specs.Prelude.{◌≡◌, ◌⊎◌, ◌<◌, ◌∷◌, [], List, ℕ, Some, Ok, IfOk, IfErr, length, sum_by, ◌≤◌};
-ghost use Rattle.std.specs.List.{All, AllZip};
+ghost use Rattle.std.specs.Prelude.{◌≡◌, ◌∷◌, [], List, ℕ, None, Some, Ok, IfOk, IfErr, length, ◌≤◌};
+ghost use Rattle.std.specs.List.{All};
 ghost use Rattle.rely_kernel.specs.Bound.{IsStart};
-ghost use Rattle.rely_kernel.specs.Valid.{IsLinked, IsValid};
-ghost use Rattle.rely_machine.specs.Run.{IsOutcome};
-ghost use Rattle.chisel_top.specs.Asked.{to_run};
-ghost use Rattle.chisel_top.specs.Findings.{Files, asked, starts_in};
+ghost use Rattle.rely_kernel.specs.Valid.{IsValid};
+ghost use Rattle.chisel_words.specs.Asked.{to_run};
+ghost use Rattle.chisel_words.specs.Words.{ToRun};
+ghost use Rattle.chisel_top.specs.Courses.{Exceeds};
+ghost use Rattle.chisel_top.specs.Findings.{Files, asked, barred_call, starts_in};
 ghost use Rattle.chisel_top.specs.Promises.{Tells};
-ghost use Rattle.chisel_top.specs.Simulations.{RunsPass, RunsTell, energy_line, most_steps, sample_line, sample_lines};
+ghost use Rattle.chisel_top.specs.Simulations.{RunsPass, RunsTell};
 ghost use Rattle.chisel_top.specs.Steps.{Agrees, Fetching, IsAsked, IsReady, Refuses, input_refused};
-ghost use Rattle.chisel_top.specs.Words.{ToRun};
 ghost use Rattle.chisel_top.specs.declared.fault.Fault.TheVariants as fault;
 
 use crate::Status;
-use crate::fault::{Fault, Refusal, Written};
+use crate::fault::{Fault, Written};
 use crate::fetch::{LONGEST_INPUTS, fetch};
 use crate::front::ready_of;
 use crate::ready::Ready;
-use crate::words::RunWords;
+use crate::samples::samples;
+use chisel_lines::{Refusal, energy_line, sample_lines};
 use chisel_outside::Shelf;
-use itoa::Buffer;
+use chisel_words::{RunWords, Trials};
 use rely_inputs::InputFault;
-use rely_kernel::{Kernel, Linked, Store};
-use rely_machine::{Outcome, RunFault, energy};
+use rely_kernel::{Kernel, Store};
+use rely_machine::energy;
 use rely_num::List;
-use std::alloc::{AllocError, Global};
-
-/// The steps that a command may not reach in all its runs together.
-pub(crate) const MOST_STEPS: u32 = 67_108_864;
+use std::alloc::Global;
 
 fn input_refused<'w>(fault: InputFault) -> Fault<'w>
     ensures { result ≡ input_refused fault }
@@ -54,76 +52,46 @@ fn starts_in<'w>(alloc: Global, k: &Kernel, bytes: &[u8]) -> Result<List<Store>,
     }
 }
 
-/// The reliable runs from all starts, unless they take too many steps together.
-#[tactic(auto, using(crate::proofs::Simulating::runs_pass))]
-fn outcomes<'w>(alloc: Global, l: &Linked, starts: &[Store]) -> Result<Vec<Outcome>, Fault<'w>>
-    requires linked { IsLinked l.now }
-    requires starts { All (IsStart l.now.kernel) starts.now }
-    ensures each { IfOk result (λ os. AllZip (IsOutcome l.now) starts.now os.items) }
-    ensures few { IfOk result (λ os. sum_by (λ o. o.steps) os.items < most_steps) }
-    ensures err { IfErr result (λ f. (f ≡ fault.Memory) ⊎ ((f ≡ fault.Steps) × RunsPass l.now starts.now)) }
+/// The place of the first call of the function, where trials are asked of it.
+fn barred_call(trials: Trials, k: &Kernel) -> Option<u32>
+    ensures { result ≡ barred_call trials k.now }
 {
-    let mut outcomes = Vec::new(alloc);
-    let mut left = u64::from(MOST_STEPS);
-    for start in starts {
-        match rely_machine::run(alloc, l, start, left) {
-            Ok(outcome) => {
-                left -= outcome.steps;
-                outcomes.push(outcome)?;
-            }
-            Err(RunFault::Steps) => return Err(Fault::Steps),
-            Err(RunFault::Memory) => return Err(Fault::Memory),
-        }
+    if trials.count == 0 {
+        return None;
     }
-    Ok(outcomes)
-}
-
-/// The line of the sample with that number, counted from 1.
-fn sample_line(alloc: Global, number: u32, outcome: &Outcome) -> Result<Vec<u8>, AllocError>
-    ensures { IfOk result (λ v. v.items ≡ sample_line number outcome.now) }
-{
-    let mut buffer = Buffer::new();
-    let mut text = Vec::from_slice(alloc, b"sample ")?;
-    text.extend_from_slice(buffer.format(number).as_bytes())?;
-    text.extend_from_slice(b" result ")?;
-    text.extend_from_slice(buffer.format(outcome.store.result).as_bytes())?;
-    text.extend_from_slice(b" steps ")?;
-    text.extend_from_slice(buffer.format(outcome.steps).as_bytes())?;
-    text.extend_from_slice(b"\n")?;
-    Ok(text)
-}
-
-fn sample_lines(alloc: Global, outcomes: &[Outcome]) -> Result<Vec<u8>, AllocError>
-    requires { length outcomes.now ≤ 64 }
-    ensures { IfOk result (λ v. v.items ≡ sample_lines 1 outcomes.now) }
-{
-    let mut text = Vec::new(alloc);
-    for (i, outcome) in outcomes.iter().enumerate() {
-        let line = sample_line(alloc, i as u32 + 1, outcome)?;
-        text.extend_from_slice(line.as_slice())?;
+    match k.calls.as_slice() {
+        [] => None,
+        [site, ..] => Some(site.mark.from),
     }
-    Ok(text)
 }
 
 /// What is printed of the runs from these starts.
-fn told<'w>(alloc: Global, ready: &Ready, starts: &[Store]) -> Result<List<u8>, Fault<'w>>
+fn told<'w>(
+    alloc: Global,
+    ready: &Ready,
+    trials: Trials,
+    starts: &[Store],
+) -> Result<List<u8>, Fault<'w>>
     requires ready { IsReady ready.now }
+    requires unbarred { barred_call trials ready.now.linked.kernel ≡ None }
     requires starts { All (IsStart ready.now.linked.kernel) starts.now }
     requires few { length starts.now ≤ 64 }
     requires some { 1 ≤ length starts.now }
-    ensures ok { IfOk result (RunsTell ready.now starts.now) }
-    ensures err { IfErr result (λ f. (f ≡ fault.Memory) ⊎ ((f ≡ fault.Steps) × RunsPass ready.now.linked starts.now)) }
+    ensures ok { IfOk result (RunsTell ready.now trials starts.now) }
+    ensures err { IfErr result (Exceeds (RunsPass ready.now trials starts.now)) }
 {
-    let outcomes = match outcomes(alloc, &ready.linked, starts) {
-        Ok(outcomes) => outcomes,
+    let simulated = match samples(alloc, ready, trials, starts) {
+        Ok(simulated) => simulated,
         Err(fault) => return Err(fault),
     };
-    let mut text = sample_lines(alloc, outcomes.as_slice())?;
-    let energy = energy(&ready.linked, &ready.hardware, outcomes.as_slice());
-    let mut buffer = Buffer::new();
-    text.extend_from_slice(b"energy ")?;
-    text.extend_from_slice(buffer.format(energy).as_bytes())?;
-    text.extend_from_slice(b"\n")?;
+    let mut text = sample_lines(alloc, trials.count, simulated.ends.as_slice())?;
+    let energy = energy(
+        &ready.linked,
+        &ready.hardware,
+        simulated.outcomes.as_slice(),
+    );
+    let line = energy_line(alloc, energy)?;
+    text.extend_from_slice(line.as_slice())?;
     Ok(List::from_vec(text))
 }
 
@@ -142,6 +110,9 @@ pub(crate) fn simulate<'w, F: Shelf>(
         Ok(ready) => ready,
         Err(fault) => return Err(fault),
     };
+    if let Some(place) = barred_call(words.trials, &ready.linked.kernel) {
+        return Err(Fault::Refused(Refusal::Trials(place)));
+    }
     let bytes = match fetch(alloc, shelf, words.inputs, LONGEST_INPUTS) {
         Ok(bytes) => bytes,
         Err(fault) => return Err(fault),
@@ -150,7 +121,7 @@ pub(crate) fn simulate<'w, F: Shelf>(
         Ok(starts) => starts,
         Err(fault) => return Err(fault),
     };
-    match told(alloc, &ready, starts.as_slice()) {
+    match told(alloc, &ready, words.trials, starts.as_slice()) {
         Ok(text) => Ok(Written {
             text,
             status: Status::Done,

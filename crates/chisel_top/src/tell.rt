@@ -3,15 +3,15 @@
 ghost use Rattle.std.specs.Prelude.{◌≡◌, ◌++◌, false, codes, decimal};
 ghost use Rattle.chisel_top.specs.Telling.{joined, Delivers};
 ghost use Rattle.chisel_top.specs.Promises.{outcome_text, outcome_status, fault_text, fault_status};
-ghost use Rattle.chisel_top.specs.Lines.{hard_line, input_line, limit_line, refusal_line, source_line};
+ghost use Rattle.chisel_lines.specs.Lines.{hard_line, input_line, limit_line, refusal_line, source_line};
 
 use crate::Status;
-use crate::fault::{Fault, Refusal, Written};
-use crate::reason::{
-    key_text, lack_text, lex_place, lex_reason, name_place, name_reason, parse_place, parse_reason,
-    walk_place, walk_reason, why_text,
+use crate::course::MOST_STEPS;
+use crate::fault::{Fault, Written};
+use chisel_lines::{
+    Refusal, key_text, lack_text, lex_place, lex_reason, name_place, name_reason, parse_place,
+    parse_reason, walk_place, walk_reason, why_text,
 };
-use crate::simulate::MOST_STEPS;
 use chisel_outside::{Put, Sink};
 use itoa::Buffer;
 use rely_hard::{HardFault, HardWhy, Key};
@@ -160,6 +160,7 @@ fn tell_refusal<K: Sink>(sink: &mut K, refusal: &Refusal) -> Status
         Refusal::Hardware(fault) => tell_hardware(sink, fault),
         Refusal::Name(fault) => tell_source(sink, name_reason(fault), name_place(fault)),
         Refusal::Mark(place) => tell_source(sink, b"mark", *place),
+        Refusal::Trials(place) => tell_source(sink, b"trials", *place),
         Refusal::Inputs(fault) => tell_inputs(sink, fault),
     }
 }

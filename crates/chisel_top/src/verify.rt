@@ -2,12 +2,12 @@
 
 ghost use Rattle.std.specs.Prelude.{◌≡◌, ◌∷◌, [], List, ℕ, Some, Ok, IfOk, IfErr};
 ghost use Rattle.std.specs.List.{list_any};
-ghost use Rattle.chisel_top.specs.Asked.{to_verify};
+ghost use Rattle.chisel_words.specs.Asked.{to_verify};
 ghost use Rattle.chisel_top.specs.Findings.{Files, asked};
 ghost use Rattle.chisel_top.specs.Promises.{Tells};
 ghost use Rattle.chisel_top.specs.Steps.{Agrees, Fetching, IsAsked, IsReady, Refuses};
 ghost use Rattle.chisel_top.specs.Verdicts.{behind_callees, is_refused, is_undecided, judged, status_on};
-ghost use Rattle.chisel_top.specs.Words.{ToVerify};
+ghost use Rattle.chisel_words.specs.Words.{ToVerify};
 ghost use Rattle.chisel_top.specs.declared.printed.Callees.TheVariants.{AllAccepted};
 ghost use Rattle.chisel_top.specs.declared.fault.Fault.TheVariants as fault;
 
@@ -17,8 +17,8 @@ use crate::fault::{Fault, Written};
 use crate::front::ready_of;
 use crate::printed::{CalleeLine, Callees, Printed};
 use crate::ready::Ready;
-use crate::words::VerifyWords;
 use chisel_outside::Shelf;
+use chisel_words::VerifyWords;
 use rely_num::List;
 use rely_verdict::Verdict;
 use std::alloc::{AllocError, Global};

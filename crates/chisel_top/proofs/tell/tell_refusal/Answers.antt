@@ -5,3 +5,6 @@ returns-in-Name-clause-delivers g c = rw (c.in-Name.is, ← c.name_reason.ensure
 
 pub returns-in-Mark-clause-delivers : goal.returns-in-Mark-clause-delivers
 returns-in-Mark-clause-delivers g c = rw c.in-Mark.is c.tell_source-in-Mark.ensures.delivers
+
+pub returns-in-Trials-clause-delivers : goal.returns-in-Trials-clause-delivers
+returns-in-Trials-clause-delivers g c = rw c.in-Trials.is c.tell_source-in-Trials.ensures.delivers

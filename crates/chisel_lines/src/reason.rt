@@ -1,7 +1,7 @@
 //! The words and the places that the lines of refusals print.
 
 ghost use Rattle.std.specs.Prelude.{◌≡◌};
-ghost use Rattle.chisel_top.specs.Lines.{key_text, lack_text, lex_place, lex_reason, name_place, name_reason, parse_place, parse_reason, walk_place, walk_reason, why_text};
+ghost use Rattle.chisel_lines.specs.Lines.{key_text, lack_text, lex_place, lex_reason, name_place, name_reason, parse_place, parse_reason, walk_place, walk_reason, why_text};
 
 use rely_hard::{HardWhy, Key};
 use rely_inputs::InputWhy;
@@ -10,7 +10,8 @@ use rely_parser::ParseFault;
 use rely_precond::PreFault;
 use rely_resolve::NameFault;
 
-pub(crate) fn lex_reason(fault: &LexFault) -> &'static [u8]
+/// The word for a refusal of the tokens.
+pub fn lex_reason(fault: &LexFault) -> &'static [u8]
     ensures { result.now ≡ lex_reason fault.now }
 {
     match fault {
@@ -21,7 +22,8 @@ pub(crate) fn lex_reason(fault: &LexFault) -> &'static [u8]
     }
 }
 
-pub(crate) fn lex_place(fault: &LexFault) -> u32
+/// The place of a refusal of the tokens, in bytes from the start of the source; 0 where it has none.
+pub fn lex_place(fault: &LexFault) -> u32
     ensures { result ≡ lex_place fault.now }
 {
     match fault {
@@ -30,7 +32,8 @@ pub(crate) fn lex_place(fault: &LexFault) -> u32
     }
 }
 
-pub(crate) fn parse_reason(fault: &ParseFault) -> &'static [u8]
+/// The word for a refusal of the grammar.
+pub fn parse_reason(fault: &ParseFault) -> &'static [u8]
     ensures { result.now ≡ parse_reason fault.now }
 {
     match fault {
@@ -41,7 +44,8 @@ pub(crate) fn parse_reason(fault: &ParseFault) -> &'static [u8]
     }
 }
 
-pub(crate) fn parse_place(fault: &ParseFault) -> u32
+/// The place of a refusal of the grammar, in bytes from the start of the source.
+pub fn parse_place(fault: &ParseFault) -> u32
     ensures { result ≡ parse_place fault.now }
 {
     match fault {
@@ -50,7 +54,8 @@ pub(crate) fn parse_place(fault: &ParseFault) -> u32
     }
 }
 
-pub(crate) fn name_reason(fault: &NameFault) -> &'static [u8]
+/// The word for a refusal of the names.
+pub fn name_reason(fault: &NameFault) -> &'static [u8]
     ensures { result.now ≡ name_reason fault.now }
 {
     match fault {
@@ -71,7 +76,8 @@ pub(crate) fn name_reason(fault: &NameFault) -> &'static [u8]
     }
 }
 
-pub(crate) fn name_place(fault: &NameFault) -> u32
+/// The place of a refusal of the names, in bytes from the start of the source; 0 where it has none.
+pub fn name_place(fault: &NameFault) -> u32
     ensures { result ≡ name_place fault.now }
 {
     match fault {
@@ -91,7 +97,8 @@ pub(crate) fn name_place(fault: &NameFault) -> u32
     }
 }
 
-pub(crate) fn walk_reason(fault: &PreFault) -> &'static [u8]
+/// The word for a limit of the walk through a claim's function.
+pub fn walk_reason(fault: &PreFault) -> &'static [u8]
     ensures { result.now ≡ walk_reason fault.now }
 {
     match fault {
@@ -102,7 +109,8 @@ pub(crate) fn walk_reason(fault: &PreFault) -> &'static [u8]
     }
 }
 
-pub(crate) fn walk_place(fault: &PreFault) -> u32
+/// The place at which the walk reaches its limit, in bytes from the start of the source.
+pub fn walk_place(fault: &PreFault) -> u32
     ensures { result ≡ walk_place fault.now }
 {
     match fault {
@@ -111,7 +119,8 @@ pub(crate) fn walk_place(fault: &PreFault) -> u32
     }
 }
 
-pub(crate) fn why_text(why: HardWhy) -> &'static [u8]
+/// The word for what is wrong with a hardware file.
+pub fn why_text(why: HardWhy) -> &'static [u8]
     ensures { result.now ≡ why_text why }
 {
     match why {
@@ -125,7 +134,8 @@ pub(crate) fn why_text(why: HardWhy) -> &'static [u8]
     }
 }
 
-pub(crate) fn key_text(key: Key) -> &'static [u8]
+/// The word for the key of a hardware file at which it is wrong.
+pub fn key_text(key: Key) -> &'static [u8]
     ensures { result.now ≡ key_text key }
 {
     match key {
@@ -146,7 +156,8 @@ pub(crate) fn key_text(key: Key) -> &'static [u8]
     }
 }
 
-pub(crate) fn lack_text(why: InputWhy) -> &'static [u8]
+/// The word for what is wrong with sample inputs.
+pub fn lack_text(why: InputWhy) -> &'static [u8]
     ensures { result.now ≡ lack_text why }
 {
     match why {

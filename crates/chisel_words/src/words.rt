@@ -1,33 +1,36 @@
 //! The words of a command line.
 
 ghost use Rattle.std.specs.Prelude.{◌≡◌, option_map, map};
-ghost use Rattle.chisel_top.specs.Words.{form, verify_form, run_form, callees_of, is_plain};
-ghost use Rattle.chisel_top.specs.Asked.{asked_by};
+ghost use Rattle.chisel_words.specs.Words.{form, is_plain, run_form, verify_form};
+ghost use Rattle.chisel_words.specs.Asked.{asked_by};
 
+use crate::options::{Trials, callees, trials_of};
 use chisel_outside::Arg;
 
 /// What `verify` is asked.
 #[derive(Clone, Copy, Debug)]
-pub(crate) struct VerifyWords<'w> {
-    pub(crate) source: &'w str,
-    pub(crate) hardware: &'w str,
-    pub(crate) function: &'w str,
+pub struct VerifyWords<'w> {
+    pub source: &'w str,
+    pub hardware: &'w str,
+    pub function: &'w str,
     /// Whether the lines of the functions that are called are wanted.
-    pub(crate) callees: bool,
+    pub callees: bool,
 }
 
 /// What `run` is asked.
 #[derive(Clone, Copy, Debug)]
-pub(crate) struct RunWords<'w> {
-    pub(crate) source: &'w str,
-    pub(crate) hardware: &'w str,
-    pub(crate) inputs: &'w str,
-    pub(crate) function: &'w str,
+pub struct RunWords<'w> {
+    pub source: &'w str,
+    pub hardware: &'w str,
+    pub inputs: &'w str,
+    pub function: &'w str,
+    /// What follows each reliable run.
+    pub trials: Trials,
 }
 
 /// A command with its words.
 #[derive(Clone, Copy, Debug)]
-pub(crate) enum Asked<'w> {
+pub enum Asked<'w> {
     Verify(VerifyWords<'w>),
     Run(RunWords<'w>),
 }
@@ -38,16 +41,6 @@ fn is_plain(word: &str) -> bool
     match word.as_bytes() {
         [] => false,
         [first, ..] => *first != b'-',
-    }
-}
-
-fn callees(options: &[Arg]) -> Option<bool>
-    ensures { result ≡ callees_of options.now }
-{
-    match options {
-        [] => Some(false),
-        [option] if option.as_str() == "--callees" => Some(true),
-        _ => None,
     }
 }
 
@@ -76,7 +69,7 @@ fn verify_words(words: &[Arg]) -> Option<Asked<'_>>
 fn run_words(words: &[Arg]) -> Option<Asked<'_>>
     ensures { option_map asked_by result ≡ run_form words.now }
 {
-    let [source, hardware, inputs, function] = words else {
+    let [source, hardware, inputs, function, options @ ..] = words else {
         return None;
     };
     let source = source.as_str();
@@ -84,11 +77,13 @@ fn run_words(words: &[Arg]) -> Option<Asked<'_>>
     let inputs = inputs.as_str();
     let function = function.as_str();
     if is_plain(source) && is_plain(hardware) && is_plain(inputs) && is_plain(function) {
+        let trials = trials_of(options)?;
         Some(Asked::Run(RunWords {
             source,
             hardware,
             inputs,
             function,
+            trials,
         }))
     } else {
         None
@@ -96,7 +91,7 @@ fn run_words(words: &[Arg]) -> Option<Asked<'_>>
 }
 
 /// None where the words are in no form.
-pub(crate) fn read(words: &[Arg]) -> Option<Asked<'_>>
+pub fn read(words: &[Arg]) -> Option<Asked<'_>>
     ensures { option_map asked_by result ≡ form words.now }
 {
     let [command, words @ ..] = words else {

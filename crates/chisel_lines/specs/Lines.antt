@@ -19,8 +19,8 @@ use Rattle.rely_inputs.specs.declared.fault.InputWhy.{InputWhy}
 use Rattle.rely_inputs.specs.declared.fault.InputWhy.TheVariants as lack
 use Rattle.rely_precond.specs.declared.fault.PreFault.{PreFault}
 use Rattle.rely_precond.specs.declared.fault.PreFault.TheVariants as walk
-use Rattle.chisel_top.specs.declared.fault.Refusal.{Refusal}
-use Rattle.chisel_top.specs.declared.fault.Refusal.TheVariants as refusal
+use Rattle.chisel_lines.specs.declared.refusal.Refusal.{Refusal}
+use Rattle.chisel_lines.specs.declared.refusal.Refusal.TheVariants as refusal
 
 abbrev pub words_line : Bytes
 words_line = codes "fault words\n"
@@ -175,4 +175,5 @@ refusal_line (refusal.Parse fault) = source_line (parse_reason fault) (parse_pla
 refusal_line (refusal.Hardware fault) = hard_line fault
 refusal_line (refusal.Name fault) = source_line (name_reason fault) (name_place fault)
 refusal_line (refusal.Mark place) = source_line (codes "mark") place
+refusal_line (refusal.Trials place) = source_line (codes "trials") place
 refusal_line (refusal.Inputs fault) = input_line fault

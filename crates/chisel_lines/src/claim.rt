@@ -1,12 +1,13 @@
-//! The printed line of a claim.
+//! The printed line of a claim, and that of a function that is called.
 
 ghost use Rattle.std.specs.Prelude.{◌≡◌, IfOk};
 ghost use Rattle.rely_num.specs.AttoTexts.{atto_text};
-ghost use Rattle.chisel_top.specs.Verdicts.{variable_name, said, line_on};
+ghost use Rattle.rely_parser.specs.State.{word_at};
+ghost use Rattle.chisel_lines.specs.ClaimLines.{callee_line, line_on, said, variable_name};
 
 use itoa::Buffer;
 use rely_kernel::{Claim, Kernel};
-use rely_num::Atto;
+use rely_num::{Atto, Span};
 use rely_verdict::Verdict;
 use std::alloc::{AllocError, Global};
 
@@ -57,8 +58,8 @@ fn said(alloc: Global, k: &Kernel, verdict: &Verdict) -> Result<Vec<u8>, AllocEr
     }
 }
 
-/// The line of the claim with that number, counted from 1.
-pub(crate) fn line(
+/// The line of the claim with that number, counted from 1: its verdict, and the bound of the claim.
+pub fn line(
     alloc: Global,
     k: &Kernel,
     number: u32,
@@ -77,4 +78,36 @@ pub(crate) fn line(
     text.extend_from_slice(&printed(claim.bound))?;
     text.extend_from_slice(b"\n")?;
     Ok(text)
+}
+
+/// The bytes of a span, none where it reaches outside the text.
+fn word_at(text: &[u8], span: Span) -> &[u8]
+    ensures { result.now ≡ word_at text.now span }
+{
+    let from = span.from as usize;
+    let to = span.to as usize;
+    if to < from || text.len() < to {
+        &[]
+    } else {
+        &text[from..to]
+    }
+}
+
+/// The same line behind the function's name, which stands in the source.
+pub fn callee_line(
+    alloc: Global,
+    text: &[u8],
+    k: &Kernel,
+    number: u32,
+    claim: &Claim,
+    verdict: &Verdict,
+) -> Result<Vec<u8>, AllocError>
+    ensures { IfOk result (λ v. v.items ≡ callee_line text.now k.now number claim.now verdict.now) }
+{
+    let line = line(alloc, k, number, claim, verdict)?;
+    let mut whole = Vec::from_slice(alloc, b"callee ")?;
+    whole.extend_from_slice(word_at(text, k.name))?;
+    whole.extend_from_slice(b" ")?;
+    whole.extend_from_slice(line.as_slice())?;
+    Ok(whole)
 }

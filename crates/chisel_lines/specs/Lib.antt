@@ -1,0 +1,3 @@
+pub mod ClaimLines
+pub mod Lines
+pub mod SampleLines
