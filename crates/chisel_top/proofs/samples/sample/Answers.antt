@@ -1,4 +1,4 @@
-use Rattle.chisel_top.proofs.Sampling.{run_exceeds, sampled, trials_exceed}
+use Rattle.chisel_top.proofs.Sampling.{sampled}
 use Rattle.chisel_top.proofs.samples.sample.Goals as goal
 
 pub returns-clause-ok : goal.returns-clause-ok

@@ -1,6 +1,5 @@
-use Rattle.std.proofs.Common.{◌≡◌, ◌<◌, ◌^◌, ◌∙◌, sym, arith}
+use Rattle.std.proofs.Common.{◌≡◌, ◌∙◌, sym, arith}
 use Rattle.std.proofs.lemmas.Slice.Eq.{bytes_eq-Decides}
-use Rattle.rely_num.specs.Texts.{Bytes}
 use Rattle.chisel_words.proofs.Numbers.{no_number, number_is}
 use Rattle.chisel_words.proofs.options.number.Goals as goal
 use Rattle.chisel_words.proofs.options.number.Goals.{else-number-last-via-then-number-last+else-eq, else-number-last-via-else-number-last}
