@@ -11,8 +11,6 @@ mod mem_shelf;
 mod mem_sink;
 mod shelf;
 mod sink;
-#[cfg(test)]
-mod tests;
 
 pub use arg::Arg;
 pub use host_shelf::HostShelf;

@@ -1,13 +1,13 @@
-//! Tests of the whole program over a shelf and a sink in memory. Nothing stands on this crate.
+//! Tests of calls that no worked example of `chisel_cases` shows. Nothing stands on this crate.
 #![tactic(auto)]
 
 #[cfg(test)]
-mod fixture;
+mod numbers;
 #[cfg(test)]
 mod outside;
 #[cfg(test)]
-mod simulate;
+mod predicates;
 #[cfg(test)]
-mod trials;
+mod sources;
 #[cfg(test)]
-mod verify;
+mod trial;

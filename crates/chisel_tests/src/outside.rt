@@ -1,59 +1,80 @@
-//! Fetches and puts that fail.
-
-use crate::fixture::{ADD, Ended, never, ran, source};
-use chisel_top::Status;
+//! What stands in memory gives and takes as its table says, and a real file is read whole.
+use chisel_outside::{Fetched, HostShelf, MemShelf, MemSink, Put, Shelf, Sink};
+use rely_num::List;
 use std::alloc::{AllocError, Global};
+use std::fs;
 use std::test::Fail;
 
-/// The run on the sum whose put of that number takes so many bytes and fails.
-fn cut(alloc: Global, words: &[&str], put: u64, taken: usize) -> Result<Ended, AllocError> {
-    let mut failing = never(alloc);
-    failing.puts.push((put, taken))?;
-    ran(alloc, words, source(ADD), failing)
+fn owned(alloc: Global, text: &[u8]) -> Result<List<u8>, AllocError> {
+    Ok(List::from_vec(Vec::from_slice(alloc, text)?))
+}
+
+fn shown(fetched: &Fetched) -> &[u8] {
+    match fetched {
+        Fetched::Whole(bytes) => bytes.as_slice(),
+        Fetched::Longer => b"(longer)",
+        Fetched::Failed => b"(failed)",
+        Fetched::Memory => b"(memory)",
+    }
 }
 
 #[test]
-fn a_fetch_fails(rt: HostRuntime) -> Result<(), Fail> {
+fn fetches_from_memory(rt: HostRuntime) -> Result<(), Fail> {
     let alloc = rt.alloc();
-    let mut failing = never(alloc);
-    failing.fetches.push(2)?;
-    let words = ["verify", "s", "hw.json", "add"];
-    let done = ran(alloc, &words, source(ADD), failing)?;
-    assert_eq!(rt; done.text.as_slice(), b"fault read hw.json\n".as_slice());
-    assert_eq!(rt; done.status, Status::ReadFault);
+    let files = vec![in alloc;
+        (owned(alloc, b"a")?, owned(alloc, b"first")?),
+        (owned(alloc, b"a")?, owned(alloc, b"second")?),
+        (owned(alloc, b"b")?, owned(alloc, b"")?),
+    ]?;
+    let failing = List::from_vec(vec![in alloc; 3]?);
+    let mut shelf = MemShelf::new(alloc, List::from_vec(files), failing);
+    for (name, limit, want) in [
+        ("a", 5, "first"),
+        ("a", 4, "(longer)"),
+        ("a", 5, "(failed)"),
+        ("c", 5, "(failed)"),
+        ("b", 0, ""),
+    ] {
+        let fetched = shelf.fetch(alloc, name, limit);
+        assert_eq!(rt; shown(&fetched), want.as_bytes());
+    }
     Ok(())
 }
 
-/// A put that fails after each number of its bytes leaves that front of the text, and no put follows it.
 #[test]
-fn a_put_fails(rt: HostRuntime) -> Result<(), Fail> {
+fn puts_into_memory(rt: HostRuntime) -> Result<(), Fail> {
     let alloc = rt.alloc();
-    let answer: &[&[u8]] = &[b"claim 1 accepted 0.996004998000000000 0.990000000000000000\n"];
-    let fault: &[&[u8]] = &[b"fault read ", b"none", b"\n"];
-    let runs: [([&str; 4], &[&[u8]]); 2] = [
-        (["verify", "s", "hw.json", "add"], answer),
-        (["verify", "none", "hw.json", "add"], fault),
-    ];
-    for (words, pieces) in runs {
-        let mut front = Vec::new(alloc);
-        for (put, piece) in pieces.iter().enumerate() {
-            for taken in 0..piece.len() {
-                let done = cut(alloc, &words, put as u64 + 1, taken)?;
-                let mut text = Vec::from_slice(alloc, front.as_slice())?;
-                text.extend_from_slice(&piece[..taken])?;
-                assert_eq!(rt;
-                    done.text.as_slice(),
-                    text.as_slice(),
-                    "put {put} after {taken} bytes"
-                );
-                assert_eq!(rt;
-                    done.status,
-                    Status::WriteFault,
-                    "put {put} after {taken} bytes"
-                );
-            }
-            front.extend_from_slice(piece)?;
-        }
+    let failing = List::from_vec(vec![in alloc; (2, 1), (2, 2), (5, 9)]?);
+    let mut sink = MemSink::new(alloc, failing);
+    sink.reserve(10)?;
+    for (piece, want, written) in [
+        ("ab", Put::All, "ab"),
+        ("cd", Put::Failed, "abc"),
+        ("efg", Put::All, "abcefg"),
+        ("hijkl", Put::Failed, "abcefghijk"),
+        ("", Put::Failed, "abcefghijk"),
+        ("", Put::All, "abcefghijk"),
+    ] {
+        assert_eq!(rt; sink.put(piece.as_bytes()), want);
+        assert_eq!(rt; sink.bytes(), written.as_bytes());
     }
+    Ok(())
+}
+
+#[test]
+fn fetches_from_the_system(rt: HostRuntime) -> Result<(), Fail> {
+    let alloc = rt.alloc();
+    let name = "chisel_outside.fetched";
+    fs::write(&rt, name, "text")?;
+    let mut shelf = HostShelf::new(&rt, alloc);
+    for (name, limit, want) in [
+        (name, 4, "text"),
+        (name, 3, "(longer)"),
+        ("chisel_outside.missing", 4, "(failed)"),
+    ] {
+        let fetched = shelf.fetch(alloc, name, limit);
+        assert_eq!(rt; shown(&fetched), want.as_bytes());
+    }
+    fs::remove_file(&rt, name)?;
     Ok(())
 }

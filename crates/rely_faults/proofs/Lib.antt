@@ -6,6 +6,5 @@ pub mod Following
 pub mod Keeping
 pub mod Looping
 pub mod Taking
-pub mod Tested
 pub mod Values
 pub mod Walking

@@ -13,6 +13,3 @@ mod walk;
 pub use laws::{each_step_follows, ends_or_passes, one_outcome, words_are_taken};
 pub use outcome::Tried;
 pub use seeded::trial;
-
-#[cfg(test)]
-mod tests;

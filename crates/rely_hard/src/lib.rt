@@ -9,8 +9,6 @@ mod kinds;
 mod memories;
 mod operators;
 mod place;
-#[cfg(test)]
-mod tests;
 
 pub use fault::{HardFault, HardWhy, Key};
 pub use file::read;

@@ -7,8 +7,6 @@ mod fault;
 mod file;
 mod place;
 mod sample;
-#[cfg(test)]
-mod tests;
 
 pub use fault::{InputFault, InputWhy};
 pub use file::read;

@@ -5,8 +5,6 @@ mod forms;
 mod front;
 mod lex;
 mod piece;
-#[cfg(test)]
-mod tests;
 mod token;
 
 pub use lex::tokens;

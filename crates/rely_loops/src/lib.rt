@@ -8,6 +8,3 @@ mod repeated;
 
 pub use growth::shift;
 pub use repeated::{LoopFault, times};
-
-#[cfg(test)]
-mod tests;

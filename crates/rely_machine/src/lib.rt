@@ -19,6 +19,3 @@ pub use held::Held;
 pub use outcome::Outcome;
 pub use reliable::run;
 pub use value::operate;
-
-#[cfg(test)]
-mod tests;

@@ -17,6 +17,5 @@ pub mod Sets
 pub mod Shape
 pub mod Steps
 pub mod Stops
-pub mod Tested
 pub mod Turning
 pub mod Weights

@@ -12,8 +12,6 @@ mod precondition;
 mod split;
 mod standing;
 mod statement;
-#[cfg(test)]
-mod tests;
 mod turns;
 mod written;
 
