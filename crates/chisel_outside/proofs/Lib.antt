@@ -1,1 +1,3 @@
 pub mod OutsideLaws
+pub mod DeviceLaws
+pub mod HostLaws

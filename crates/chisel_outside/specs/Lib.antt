@@ -1,3 +1,4 @@
 pub mod Outside
+pub mod Device
 pub mod Memory
 pub mod Host

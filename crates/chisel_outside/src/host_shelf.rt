@@ -1,11 +1,12 @@
 //! A shelf over the system's files.
-ghost use Rattle.std.specs.Prelude.{◌≡◌, ◌↔◌, ◌<◌, ◌^◌, [], None, length, take, IfOk, OnErr};
+ghost use Rattle.std.specs.Prelude.{◌≡◌, ◌<◌, ◌^◌, [], None, length, IfOk, IfErr};
 ghost use Rattle.std.specs.Io.{ReadsAtMost};
-ghost use Rattle.std.specs.Io.KnownBytes.{Consumes, Keeps, IsAtEnd};
+ghost use Rattle.std.specs.Io.KnownBytes.{ReadConsumes};
 ghost use Rattle.std.specs.IoError.{error_kind};
-ghost use Rattle.chisel_outside.specs.declared.shelf.Fetched.TheVariants.{Memory};
-ghost use Rattle.chisel_outside.specs.Host.{Reads, IsWithin, IsFault};
+ghost use Rattle.chisel_outside.specs.Device.{answer_of, GainsSome, EndIn};
+ghost use Rattle.chisel_outside.specs.Host.{Reads, ReadsBy, Holds, IsWithin, IsFault};
 
+use crate::device::{Reader, is_interrupted};
 use crate::mem_shelf::mark_of;
 use crate::shelf::{Fetched, Shelf};
 use rely_num::List;
@@ -35,8 +36,7 @@ impl<'r, R: Files> HostShelf<'r, R> {
 
 // Want of memory is no fault of the device.
 fn fault_of(e: &Error) -> Fetched
-    ensures fault { IsFault result }
-    ensures memory { (result ≡ Memory) ↔ (error_kind e.now ≡ ErrorKind.OutOfMemory) }
+    ensures { IsFault (error_kind e.now) result }
 {
     if e.kind() == ErrorKind::OutOfMemory {
         Fetched::Memory
@@ -46,30 +46,26 @@ fn fault_of(e: &Error) -> Fetched
 }
 
 // One read, again where a signal interrupts it.
-fn read_some<F: Read>(file: &mut F, piece: &mut [u8]) -> io::Result<usize>
+fn read_some<R: Reader>(file: &mut R, piece: &mut [u8]) -> io::Result<usize>
     ensures bound { ReadsAtMost result piece.new }
     ensures len { length piece.new ≡ length piece.old }
-    ensures ok { IfOk result (λ n. Consumes (F.remaining file.old) (F.remaining file.new) (take n piece.new)) }
-    ensures end { IfOk result (λ n. n ≡ 0 → 0 < length piece.old → IsAtEnd (F.remaining file.new)) }
-    ensures err { OnErr result (Keeps (F.remaining file.old) (F.remaining file.new)) }
+    ensures bytes { ReadConsumes (R.remaining file.old) (R.remaining file.new) result piece.new }
+    ensures calls { GainsSome (R.answers file.old) (R.answers file.new) (EndIn (answer_of result)) }
 {
-    for _ in 0..u64::MAX {
-        match file.read(piece) {
-            Ok(n) => return Ok(n),
-            Err(e) => {
-                if e.kind() != ErrorKind::Interrupted {
-                    return Err(e);
-                }
-            }
+    for _ in 1..u64::MAX {
+        let answer = file.read_once(piece);
+        if !is_interrupted(&answer) {
+            return answer;
         }
     }
-    Err(Error::from(ErrorKind::Interrupted))
+    file.read_once(piece)
 }
 
 // Each turn but the last takes at least one byte, so there are at most `limit + 1`.
-fn read_up_to<F: Read>(alloc: Global, file: &mut F, limit: usize) -> Fetched
+fn read_up_to<R: Reader>(alloc: Global, file: &mut R, limit: usize) -> Fetched
     requires { limit < 2 ^ 32 }
-    ensures { Reads limit (F.remaining file.old) (F.remaining file.new) result }
+    ensures bytes { Reads limit (R.remaining file.old) (R.remaining file.new) result }
+    ensures calls { GainsSome (R.answers file.old) (R.answers file.new) (ReadsBy result) }
 {
     let mut bytes = Vec::new(alloc);
     let mut piece = [0u8; 4096];
@@ -88,11 +84,13 @@ fn read_up_to<F: Read>(alloc: Global, file: &mut F, limit: usize) -> Fetched
     Fetched::Longer
 }
 
-fn load<R: Files>(alloc: Global, files: &R, name: &str, limit: usize) -> Fetched
+fn read_opened<R: Read + Drop>(alloc: Global, opened: io::Result<R>, limit: usize) -> Fetched
     requires { limit < 2 ^ 32 }
-    ensures { IsWithin limit result }
+    ensures within { IsWithin limit result }
+    ensures ok { IfOk opened (λ file. Holds limit (R.remaining file) result) }
+    ensures err { IfErr opened (λ e. IsFault (error_kind e) result) }
 {
-    match fs::open(files, name) {
+    match opened {
         Ok(mut file) => read_up_to(alloc, &mut file, limit),
         Err(e) => fault_of(&e),
     }
@@ -108,7 +106,7 @@ impl<R: Files> Shelf for HostShelf<'_, R> {
             return Fetched::Memory;
         };
         let kept = List::from_vec(kept);
-        let fetched = load(alloc, self.files, name, limit);
+        let fetched = read_opened(alloc, fs::open(self.files, name), limit);
         let Some(mark) = mark_of(&fetched) else {
             return Fetched::Memory;
         };

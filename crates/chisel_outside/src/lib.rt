@@ -5,6 +5,7 @@
 #![tactic(auto)]
 
 mod arg;
+mod device;
 mod host_shelf;
 mod host_sink;
 mod mem_shelf;

@@ -1,7 +1,12 @@
--- An interrupted read takes nothing, and the buffer keeps its length.
+-- Interrupted reads take nothing, and the buffer keeps its length.
 use Rattle.std.proofs.Common.{◌≡◌, length}
 use Rattle.std.specs.Io.KnownBytes.{Keeps}
+use Rattle.chisel_outside.proofs.DeviceLaws.{Tried}
 use Rattle.chisel_outside.proofs.host_shelf.read_some.Given as goal
 
 abbrev pub invariant-loop : goal.invariant-loop
-invariant-loop g l = (length l.piece ≡ length l.initial.piece) × Keeps (g.F.Read.remaining l.initial.file) (g.F.Read.remaining l.file)
+invariant-loop g l = record {
+  same : length l.piece ≡ length l.initial.piece;
+  keeps : Keeps (g.R.Reader.remaining l.initial.file) (g.R.Reader.remaining l.file);
+  tried : Tried (g.R.Reader.answers l.initial.file) (g.R.Reader.answers l.file) l.counter;
+}

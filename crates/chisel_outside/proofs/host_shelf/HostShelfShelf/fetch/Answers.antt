@@ -4,4 +4,4 @@ use Rattle.chisel_outside.proofs.host_shelf.HostShelfShelf.fetch.Goals as goal
 
 pub returns-clause-faults : goal.returns-clause-faults
 returns-clause-faults g c =
-    Fetches-faults None c.args.name.now c.args.limit c.args.self.now.log.items c.push.new.self.items c.load-fetched.result (search rules)
+    Fetches-faults None c.args.name.now c.args.limit c.args.self.now.log.items c.push.new.self.items c.read_opened-fetched.result (search rules)
