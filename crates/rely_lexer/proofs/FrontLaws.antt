@@ -7,12 +7,11 @@ use Rattle.rely_lexer.specs.declared.token.Token.{Token}
 use Rattle.rely_lexer.specs.declared.token.TokenKind.{TokenKind}
 use Rattle.rely_lexer.specs.declared.token.LexFault.{LexFault}
 use Rattle.rely_lexer.specs.declared.token.LexFault.TheVariants.{TooLong, NumberWide, BadByte, Memory}
-use Rattle.rely_lexer.specs.declared.piece.Piece.TheVariants.{Lexeme}
 use Rattle.rely_lexer.specs.Tokens.{is_blank, gap_length, token_at}
 use Rattle.rely_lexer.specs.Readings.{HasForm, is_gap, AreTokensUpTo}
-use Rattle.rely_lexer.proofs.LongestLaws.{IsLongestPiece}
+use Rattle.rely_lexer.proofs.LongestLaws.{IsLongestFront}
 use Rattle.rely_lexer.proofs.FormLemmas.{HasForm-first}
-use Rattle.rely_lexer.proofs.ReadingLaws.{Reaches, front-gap, IsLongest-from_piece}
+use Rattle.rely_lexer.proofs.ReadingLaws.{Reaches, front-gap, IsLongest-from_front}
 
 -- the place of a refusal
 abbrev pub place_of : LexFault → ℕ
@@ -65,7 +64,7 @@ gap-before text at n place (token ∷ tokens) is some few inside first (after, f
 pub fronts-gap : (text : Bytes) (at n place : ℕ) → n ≡ gap_length (drop at text) → 0 < n → at + n ≤ length text → Fronts text (at + n) place → Fronts text at place
 fronts-gap text at n place is some few f = record { tokens = f.tokens; are = gap-before text at n place f.tokens is some few f.inside f.first f.are; inside = f.inside; first = f.first }
 
-pub fronts-token : (text : Bytes) (at n place : ℕ) (k : TokenKind) → 0 < n → at + n ≤ length text → HasForm k (take n (drop at text)) → IsLongestPiece (drop at text) (Lexeme k n) → Fronts text (at + n) place → Fronts text at place
+pub fronts-token : (text : Bytes) (at n place : ℕ) (k : TokenKind) → 0 < n → at + n ≤ length text → HasForm k (take n (drop at text)) → IsLongestFront (drop at text) n → Fronts text (at + n) place → Fronts text at place
 fronts-token text at n place k some few form longest f =
     let none : at - at ≡ 0 = omega arith in
     let size : at + n - at ≡ n = omega arith in
@@ -73,7 +72,7 @@ fronts-token text at n place k some few form longest f =
     let shape : HasForm k (slice_range text at (at + n)) = rw size form in
     record {
       tokens = token_at k at (at + n) ∷ f.tokens;
-      are = (omega arith, omega arith, few, gap, shape, IsLongest-from_piece text at n k longest, f.are);
+      are = (omega arith, omega arith, few, gap, shape, IsLongest-from_front text at n longest, f.are);
       inside = f.inside;
       first = f.first;
     }

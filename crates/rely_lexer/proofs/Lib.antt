@@ -6,3 +6,6 @@ pub mod ReadingLaws
 pub mod LongestLaws
 pub mod FrontLaws
 pub mod RefusalLaws
+pub mod GapLaws
+pub mod KindLaws
+pub mod OneReading

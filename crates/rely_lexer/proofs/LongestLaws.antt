@@ -1,8 +1,8 @@
 -- No longer bytes at the front of a text have the form of a token.
-use Rattle.std.proofs.Common.{◌≡◌, ℕ, zero, suc, ◌+◌, ◌<◌, ◌≤◌, ◌&&◌, nat_lt, nat_le, ◌^◌, ◌⊎◌, inl, inr, ⊎_elim, Bool, true, false, not, cond, List, [], ◌∷◌, ◌++◌, take, drop, length, get_or, Option, Some, None, refl, ap, sym, ◌∙◌, subst, arith, length-take, option_map, unwrap_or}
+use Rattle.std.proofs.Common.{◌≡◌, ℕ, zero, suc, ◌+◌, ◌<◌, ◌≤◌, ◌&&◌, ◌==◌, nat_lt, nat_le, ◌^◌, ◌⊎◌, inl, inr, ⊎_elim, Bool, true, false, not, cond, List, [], ◌∷◌, ◌++◌, take, drop, length, get_or, Option, Some, None, refl, ap, sym, ◌∙◌, subst, arith, length-take, option_map, unwrap_or}
 use Rattle.std.specs.Option.{option_or}
 use Rattle.std.specs.List.{prefix_len, list_all}
-use Rattle.std.proofs.lemmas.Bool.{cond_both, cond-true, and_parts, and_from, or_left, false≢true, both_ways, ltb-false, leb-true, not-true}
+use Rattle.std.proofs.lemmas.Bool.{cond_both, cond-true, and_parts, and_from, or_left, false≢true, both_ways, ltb-false, leb-true, not-true, eqb-true, false_from_ne_true}
 use Rattle.std.proofs.lemmas.Bool.Decides.{nat_tests}
 use Rattle.std.proofs.lemmas.Slice.Eq.{bytes_eq-Decides}
 use Rattle.std.proofs.lemmas.List.{length-take-le}
@@ -15,12 +15,12 @@ use Rattle.rely_lexer.specs.declared.token.TokenKind.TheVariants as kind
 use Rattle.rely_lexer.specs.declared.piece.Piece.{Piece}
 use Rattle.rely_lexer.specs.declared.piece.Piece.TheVariants.{Gap, Lexeme, Wide, Bad}
 use Rattle.rely_lexer.specs.Forms.{lookup, words, operators, word_of, operator_of, alone, sign_kind}
-use Rattle.rely_lexer.specs.Tokens.{piece_of, token_piece, gap_length, name_piece, number_piece, fraction_length, whole_piece, sign_piece}
+use Rattle.rely_lexer.specs.Tokens.{is_blank, is_in_line, begins_comment, piece_of, token_piece, gap_length, name_piece, number_piece, fraction_length, whole_piece, sign_piece}
 use Rattle.rely_lexer.specs.Readings.{HasForm, AreDigits}
 use Rattle.rely_lexer.proofs.Pieces.{prefix_len-some}
 
 -- what all keys of a table pass, a text passes that the table has
-lookup-keys : {A : Type 0} (pred : Bytes → Bool) (text : Bytes) (rows : List (Bytes × A)) (value : A) → lookup text rows ≡ Some value → list_all (λ row. pred row.0) rows ≡ true → pred text ≡ true
+pub lookup-keys : {A : Type 0} (pred : Bytes → Bool) (text : Bytes) (rows : List (Bytes × A)) (value : A) → lookup text rows ≡ Some value → list_all (λ row. pred row.0) rows ≡ true → pred text ≡ true
 lookup-keys pred text [] value is all = absurd (cc)
 lookup-keys {A} pred text ((key, first) ∷ rows) value is all =
     found (same_text text key) refl is (λ rest. lookup-keys pred text rows value rest (and_parts (pred key) (list_all (λ row. pred row.0) rows) all).1)
@@ -30,7 +30,7 @@ lookup-keys {A} pred text ((key, first) ∷ rows) value is all =
     found false differs has later = later has
 
 -- what passes throughout is no longer than the front that passes
-prefix-from-all : (p : ℕ → Bool) (text : Bytes) (n : ℕ) → n ≤ length text → list_all p (take n text) ≡ true → n ≤ prefix_len p text
+pub prefix-from-all : (p : ℕ → Bool) (text : Bytes) (n : ℕ) → n ≤ length text → list_all p (take n text) ≡ true → n ≤ prefix_len p text
 prefix-from-all p [] n few all = few
 prefix-from-all p (byte ∷ bytes) zero few all = omega arith
 prefix-from-all p (byte ∷ bytes) (suc n) few all =
@@ -55,7 +55,7 @@ is_word-all (byte ∷ bytes) word =
     and_from (is_name_byte byte) (list_all is_name_byte bytes) (or_left (is_letter byte) (is_digit byte) parts.0) parts.1
 
 -- digits begin with a digit
-digits-first : (text : Bytes) → AreDigits text → is_digit (get_or text 0 0) ≡ true
+pub digits-first : (text : Bytes) → AreDigits text → is_digit (get_or text 0 0) ≡ true
 digits-first [] digits = absurd (omega (arith, digits.0))
 digits-first (byte ∷ bytes) digits = (and_parts (is_digit byte) (list_all is_digit bytes) digits.1).0
 
@@ -66,7 +66,7 @@ decimal-first text (digit ∷ more) fraction is digits =
     ap (λ (t : Bytes). is_digit (get_or t 0 0)) is ∙ digits-first (digit ∷ more) digits
 
 -- no byte is a letter and a digit
-letter-or-digit : (byte : ℕ) → is_letter byte ≡ true → is_digit byte ≡ true → ⊥
+pub letter-or-digit : (byte : ℕ) → is_letter byte ≡ true → is_digit byte ≡ true → ⊥
 letter-or-digit byte letter digit = grind (arith, nat_tests)
 
 -- neither a letter nor a digit first, and two bytes at most
@@ -102,11 +102,11 @@ first-of (kind.Mark byte) text form = ap (length {A = ℕ}) form.0
 first-of (kind.Oper o) text form = operator-sign text o form
 
 -- no longer front of the text has the form of a token
-abbrev pub IsLongestPiece : Bytes → Piece → Type 0
-IsLongestPiece text (Gap n) = Unit {0}
-IsLongestPiece text (Lexeme k m) = (n : ℕ) (j : TokenKind) → n ≤ length text → HasForm j (take n text) → n ≤ m
-IsLongestPiece text Wide = Unit {0}
-IsLongestPiece text Bad = Unit {0}
+abbrev pub IsLongestToken : Bytes → Piece → Type 0
+IsLongestToken text (Gap n) = Unit {0}
+IsLongestToken text (Lexeme k m) = (n : ℕ) (j : TokenKind) → n ≤ length text → HasForm j (take n text) → n ≤ m
+IsLongestToken text Wide = Unit {0}
+IsLongestToken text Bad = Unit {0}
 
 -- where a letter is first, no token is longer than the longest name
 named : (text : Bytes) (n : ℕ) (j : TokenKind) → is_letter (get_or text 0 0) ≡ true → 0 < length text → suc n ≤ length text → HasForm j (take (suc n) text) → suc n ≤ prefix_len is_name_byte text
@@ -169,7 +169,7 @@ numbered text n (kind.Oper o) digit some few form =
     absurd (both_ways (is_digit (get_or text 0 0)) (ap is_digit (sym (first-same text n)) ∙ (first-of (kind.Oper o) (take (suc n) text) form).1) digit)
 
 -- the longest name is the longest token
-name_piece-longest : (text : Bytes) → is_letter (get_or text 0 0) ≡ true → 0 < length text → IsLongestPiece text (name_piece text)
+name_piece-longest : (text : Bytes) → is_letter (get_or text 0 0) ≡ true → 0 < length text → IsLongestToken text (name_piece text)
 unfolding name_piece
 name_piece-longest text letter some zero j few form = omega arith
 name_piece-longest text letter some (suc n) j few form = named text n j letter some few form
@@ -182,21 +182,21 @@ reached text digit some (suc k) j few form = numbered text k j digit some few fo
 
 -- a whole number with no fraction behind it is the longest token
 whole_piece-longest : (text : Bytes) → is_digit (get_or text 0 0) ≡ true → 0 < length text → fraction_length (drop (prefix_len is_digit text) text) ≤ 0 →
-    IsLongestPiece text (whole_piece (take (prefix_len is_digit text) text))
+    IsLongestToken text (whole_piece (take (prefix_len is_digit text) text))
 unfolding whole_piece
 whole_piece-longest text digit some none =
     let digits = take (prefix_len is_digit text) text in
     let v = number_of digits in
-    cond_both (nat_lt v (2 ^ 63)) (Lexeme (kind.Number v) (length digits)) Wide (IsLongestPiece text)
+    cond_both (nat_lt v (2 ^ 63)) (Lexeme (kind.Number v) (length digits)) Wide (IsLongestToken text)
     (λ _ k j few form. omega (arith, reached text digit some k j few form, length-prefix_len is_digit text)) (λ _. tt)
 
 -- the number at the front is the longest token
-number_piece-longest : (text : Bytes) → is_digit (get_or text 0 0) ≡ true → 0 < length text → IsLongestPiece text (number_piece text)
+number_piece-longest : (text : Bytes) → is_digit (get_or text 0 0) ≡ true → 0 < length text → IsLongestToken text (number_piece text)
 unfolding number_piece
 number_piece-longest text digit some =
     let n = prefix_len is_digit text in
     let m = fraction_length (drop n text) in
-    cond_both (nat_lt 0 m) (Lexeme kind.Decimal (n + m)) (whole_piece (take n text)) (IsLongestPiece text) (λ _. reached text digit some)
+    cond_both (nat_lt 0 m) (Lexeme kind.Decimal (n + m)) (whole_piece (take n text)) (IsLongestToken text) (λ _. reached text digit some)
     (λ none. whole_piece-longest text digit some (ltb-false 0 m none))
 
 -- where neither a letter nor a digit is first, a form is one byte, or two that are an operator
@@ -229,7 +229,7 @@ short text (suc n) j letter digit few form = symbol text n j letter digit few fo
 
 -- a sign is the longest token, by whether the first two bytes and the first byte are one
 sign-longest : (text : Bytes) (two one : Option TokenKind) → sign_kind (take 2 text) ≡ two → is_letter (get_or text 0 0) ≡ false → is_digit (get_or text 0 0) ≡ false →
-    IsLongestPiece text (unwrap_or (option_or (option_map (λ k. Lexeme k (length (take 2 text))) two) (option_map (λ k. Lexeme k (length (take 1 text))) one)) Bad)
+    IsLongestToken text (unwrap_or (option_or (option_map (λ k. Lexeme k (length (take 2 text))) two) (option_map (λ k. Lexeme k (length (take 1 text))) one)) Bad)
 sign-longest text (Some k) one is letter digit = λ n j few form.
     ⊎_elim (λ small. omega (arith, length-take 2 text)) (λ two. omega (arith, two.0, length-take 2 text)) (short text n j letter digit few form)
 sign-longest text None (Some k) is letter digit = λ n j few form.
@@ -237,22 +237,104 @@ sign-longest text None (Some k) is letter digit = λ n j few form.
 sign-longest text None None is letter digit = tt
 
 -- the sign at the front is the longest token
-sign_piece-longest : (text : Bytes) → is_letter (get_or text 0 0) ≡ false → is_digit (get_or text 0 0) ≡ false → IsLongestPiece text (sign_piece text)
+sign_piece-longest : (text : Bytes) → is_letter (get_or text 0 0) ≡ false → is_digit (get_or text 0 0) ≡ false → IsLongestToken text (sign_piece text)
 unfolding sign_piece
 sign_piece-longest text letter digit = sign-longest text (sign_kind (take 2 text)) (sign_kind (take 1 text)) refl letter digit
 
 -- the token at the front is the longest
-token_piece-longest : (text : Bytes) → 0 < length text → IsLongestPiece text (token_piece text)
+token_piece-longest : (text : Bytes) → 0 < length text → IsLongestToken text (token_piece text)
 unfolding token_piece
 token_piece-longest text some =
     let first = get_or text 0 0 in
-    cond_both (is_letter first) (name_piece text) (cond (is_digit first) (number_piece text) (sign_piece text)) (IsLongestPiece text) (λ letter. name_piece-longest text letter some)
-    (λ letter. cond_both (is_digit first) (number_piece text) (sign_piece text) (IsLongestPiece text) (λ digit. number_piece-longest text digit some)
+    cond_both (is_letter first) (name_piece text) (cond (is_digit first) (number_piece text) (sign_piece text)) (IsLongestToken text) (λ letter. name_piece-longest text letter some)
+    (λ letter. cond_both (is_digit first) (number_piece text) (sign_piece text) (IsLongestToken text) (λ digit. number_piece-longest text digit some)
     (λ digit. sign_piece-longest text letter digit))
+
+-- ---- digits and comments
+
+-- no longer front of the text is digits
+abbrev pub HoldsDigits : Bytes → Piece → Type 0
+HoldsDigits text (Gap n) = Unit {0}
+HoldsDigits text (Lexeme k m) = (n : ℕ) → n ≤ length text → AreDigits (take n text) → n ≤ m
+HoldsDigits text Wide = Unit {0}
+HoldsDigits text Bad = Unit {0}
+
+-- a front of digits begins with one
+digits-front : (text : Bytes) (n : ℕ) → AreDigits (take n text) → is_digit (get_or text 0 0) ≡ true
+digits-front text zero digits = absurd (omega (arith, digits.0))
+digits-front text (suc n) digits = ap is_digit (sym (first-same text n)) ∙ digits-first (take (suc n) text) digits
+
+-- where no digit is first there are none
+no-digits : (text : Bytes) (piece : Piece) → is_digit (get_or text 0 0) ≡ false → HoldsDigits text piece
+no-digits text (Gap n) none = tt
+no-digits text (Lexeme k m) none = λ n few digits. absurd (both_ways (is_digit (get_or text 0 0)) none (digits-front text n digits))
+no-digits text Wide none = tt
+no-digits text Bad none = tt
+
+whole_piece-digits : (text : Bytes) → HoldsDigits text (whole_piece (take (prefix_len is_digit text) text))
+unfolding whole_piece
+whole_piece-digits text =
+    let digits = take (prefix_len is_digit text) text in
+    let v = number_of digits in
+    cond_both (nat_lt v (2 ^ 63)) (Lexeme (kind.Number v) (length digits)) Wide (HoldsDigits text)
+    (λ _ k few are. omega (arith, prefix-from-all is_digit text k few are.1, length-prefix_len is_digit text)) (λ _. tt)
+
+number_piece-digits : (text : Bytes) → HoldsDigits text (number_piece text)
+unfolding number_piece
+number_piece-digits text =
+    let n = prefix_len is_digit text in
+    let m = fraction_length (drop n text) in
+    cond_both (nat_lt 0 m) (Lexeme kind.Decimal (n + m)) (whole_piece (take n text)) (HoldsDigits text) (λ _ k few are. omega (arith, prefix-from-all is_digit text k few are.1))
+    (λ _. whole_piece-digits text)
+
+token_piece-digits : (text : Bytes) → HoldsDigits text (token_piece text)
+unfolding token_piece
+token_piece-digits text =
+    let first = get_or text 0 0 in
+    cond_both (is_letter first) (name_piece text) (cond (is_digit first) (number_piece text) (sign_piece text)) (HoldsDigits text)
+    (λ letter. no-digits text (name_piece text) (false_from_ne_true (is_digit first) (letter-or-digit first letter)))
+    (λ _. cond_both (is_digit first) (number_piece text) (sign_piece text) (HoldsDigits text) (λ _. number_piece-digits text) (λ none. no-digits text (sign_piece text) none))
+
+-- where there is no gap, no comment begins
+no-comment : (text : Bytes) → gap_length text ≤ 0 → begins_comment text ≡ false
+unfolding gap_length
+no-comment [] none = refl
+no-comment (byte ∷ bytes) none =
+    let text = byte ∷ bytes in
+    without (is_blank byte) (begins_comment text) (prefix_len is_in_line text) none (λ slashes. prefix_len-some is_in_line text (omega arith) (in-line slashes))
+  where
+    in-line : begins_comment (byte ∷ bytes) ≡ true → is_in_line byte ≡ true
+    in-line slashes = ap is_in_line (eqb-true byte 47 (and_parts (byte == 47) (get_or bytes 0 0 == 47) slashes).0)
+
+    without : (blank comment : Bool) (n : ℕ) → cond blank 1 (cond comment n 0) ≤ 0 → (comment ≡ true → 0 < n) → comment ≡ false
+    without true comment n few some = absurd (omega arith)
+    without false true n few some = let more = some refl in absurd (omega arith)
+    without false false n few some = refl
+
+-- ---- the piece at the front
+
+-- no more of the text's front is a token or digits, and it begins no comment
+pub record IsLongestFront (text : Bytes) (m : ℕ) : Type 0 where
+  pub token : (n : ℕ) (j : TokenKind) → n ≤ length text → HasForm j (take n text) → n ≤ m
+  pub digits : (n : ℕ) → n ≤ length text → AreDigits (take n text) → n ≤ m
+  pub comment : begins_comment text ≡ false
+
+abbrev pub IsLongestPiece : Bytes → Piece → Type 0
+IsLongestPiece text (Gap n) = Unit {0}
+IsLongestPiece text (Lexeme k m) = IsLongestFront text m
+IsLongestPiece text Wide = Unit {0}
+IsLongestPiece text Bad = Unit {0}
+
+longest-front : (text : Bytes) (piece : Piece) → IsLongestToken text piece → HoldsDigits text piece → begins_comment text ≡ false → IsLongestPiece text piece
+longest-front text (Gap n) token digits comment = tt
+longest-front text (Lexeme k m) token digits comment = record { token = token; digits = digits; comment = comment }
+longest-front text Wide token digits comment = tt
+longest-front text Bad token digits comment = tt
 
 -- the piece at the front is the longest token
 pub piece_of-longest : (text : Bytes) → 0 < length text → IsLongestPiece text (piece_of text)
 unfolding piece_of
 piece_of-longest text some =
     let n = gap_length text in
-    cond_both (nat_lt 0 n) (Gap n) (token_piece text) (IsLongestPiece text) (λ _. tt) (λ _. token_piece-longest text some)
+    cond_both (nat_lt 0 n) (Gap n) (token_piece text) (IsLongestPiece text) (λ _. tt)
+    (λ none. longest-front text (token_piece text) (token_piece-longest text some) (token_piece-digits text) (no-comment text (ltb-false 0 n none)))

@@ -13,7 +13,7 @@ use Rattle.rely_lexer.specs.declared.piece.Piece.TheVariants.{Gap, Lexeme, Wide,
 use Rattle.rely_lexer.specs.Tokens.{IsWithin, is_blank, is_in_line, begins_comment, gap_length, piece_of, token_at, token_then, tokens_behind, tokens_of}
 use Rattle.rely_lexer.specs.Readings.{HasForm, IsLongest, is_gap, AreTokensFrom}
 use Rattle.rely_lexer.proofs.Pieces.{piece_of-within}
-use Rattle.rely_lexer.proofs.LongestLaws.{IsLongestPiece, piece_of-longest}
+use Rattle.rely_lexer.proofs.LongestLaws.{IsLongestFront, IsLongestPiece, piece_of-longest}
 use Rattle.rely_lexer.proofs.FormLemmas.{PieceFits, piece_of-fits, HasForm-first}
 use Rattle.rely_lexer.proofs.Behind.{behind-Gap, behind-Lexeme, behind-Wide, behind-Bad, behind-end}
 
@@ -132,12 +132,16 @@ gap-before text at n (token ∷ tokens) is some inside (after, full, fits, gap, 
     (get_or-take size (drop from text) 0 0 (omega arith) ∙ get_or-drop from text 0 0 ∙ ap (λ i. get_or text i 0) (close-places at n from close after) ∙ sym (get_or-drop at text n 0) ∙ e) in
     (omega arith, full, fits, subst (λ (k : ℕ). is_gap false false (take k rest) ≡ true) same (reach behind (inr (shorter, first))), form, longest, more)
 
--- the longest piece at a place is the longest from there on
-pub IsLongest-from_piece : (text : Bytes) (at n : ℕ) (k : TokenKind) → IsLongestPiece (drop at text) (Lexeme k n) → IsLongest text at (at + n)
-IsLongest-from_piece text at n k longest = λ end j inside form. omega (arith, longest (end - at) j (omega (arith, length-drop at text)) form)
+-- the longest front at a place is the longest from there on
+pub IsLongest-from_front : (text : Bytes) (at n : ℕ) → IsLongestFront (drop at text) n → IsLongest text at (at + n)
+IsLongest-from_front text at n longest = record {
+  token = λ end j inside form. omega (arith, longest.token (end - at) j (omega (arith, length-drop at text)) form);
+  digits = λ end inside digits. omega (arith, longest.digits (end - at) (omega (arith, length-drop at text)) digits);
+  comment = longest.comment;
+}
 
 -- a token, and the tokens behind it
-token-before : (text : Bytes) (at n : ℕ) (k : TokenKind) (tokens : List Token) (r : Result (List Token) LexFault) → 0 < n → at + n ≤ length text → HasForm k (take n (drop at text)) → IsLongestPiece (drop at text) (Lexeme k n) →
+token-before : (text : Bytes) (at n : ℕ) (k : TokenKind) (tokens : List Token) (r : Result (List Token) LexFault) → 0 < n → at + n ≤ length text → HasForm k (take n (drop at text)) → IsLongestFront (drop at text) n →
     ((behind : List Token) → r ≡ Ok behind → AreTokensFrom text (at + n) behind) → token_then (token_at k at (at + n)) r ≡ Ok tokens → AreTokensFrom text at tokens
 token-before text at n k tokens (Ok behind) some inside form longest more is =
     let e : token_at k at (at + n) ∷ behind ≡ tokens = cc in
@@ -145,7 +149,7 @@ token-before text at n k tokens (Ok behind) some inside form longest more is =
     let size : at + n - at ≡ n = omega arith in
     let gap : is_gap false false (slice_range text at at) ≡ true = rw none refl in
     let shape : HasForm k (slice_range text at (at + n)) = rw size form in
-    subst (AreTokensFrom text at) e (omega arith, omega arith, inside, gap, shape, IsLongest-from_piece text at n k longest, more behind refl)
+    subst (AreTokensFrom text at) e (omega arith, omega arith, inside, gap, shape, IsLongest-from_front text at n longest, more behind refl)
 token-before text at n k tokens (Err e) some inside form longest more is = absurd (cc)
 
 -- what stands at a place, and the tokens behind it

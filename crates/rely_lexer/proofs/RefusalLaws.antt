@@ -1,8 +1,8 @@
 -- Each refusal has its cause.
-use Rattle.std.proofs.Common.{◌≡◌, ℕ, zero, suc, ◌+◌, ◌-◌, ◌<◌, ◌≤◌, nat_lt, ◌^◌, ◌⊎◌, inl, inr, ⊎_elim, Bool, true, false, cond, List, [], ◌∷◌, take, drop, length, get_or, Option, Some, None, Result, Ok, Err, refl, ap, sym, ◌∙◌, subst, arith, length-drop, option_map, unwrap_or}
+use Rattle.std.proofs.Common.{◌≡◌, ℕ, zero, suc, ◌+◌, ◌-◌, ◌<◌, ◌≤◌, nat_lt, ◌==◌, ◌^◌, ◌⊎◌, inl, inr, ⊎_elim, Bool, true, false, cond, List, [], ◌∷◌, take, drop, length, get_or, Option, Some, None, Result, Ok, Err, refl, ap, sym, ◌∙◌, subst, arith, length-drop, option_map, unwrap_or}
 use Rattle.std.specs.Option.{option_or}
 use Rattle.std.specs.List.{prefix_len, slice_range}
-use Rattle.std.proofs.lemmas.Bool.{cond_both, both_ways, ltb-true, ltb-false, cases_lt}
+use Rattle.std.proofs.lemmas.Bool.{cond_both, both_ways, ltb-true, ltb-false, cases_lt, and_left, ne_eqb, false≢true}
 use Rattle.std.proofs.lemmas.List.{get_or-drop}
 use Rattle.std.proofs.lemmas.List.Sums.{prefix_len-le-length}
 use Rattle.rely_num.specs.Texts.{Bytes, is_digit, is_letter}
@@ -17,10 +17,11 @@ use Rattle.rely_lexer.specs.declared.piece.Piece.{Piece}
 use Rattle.rely_lexer.specs.declared.piece.Piece.TheVariants.{Gap, Lexeme, Wide, Bad}
 use Rattle.rely_lexer.specs.Forms.{operator_of, is_mark, mark_kind, alone, sign_kind}
 use Rattle.rely_lexer.specs.Tokens.{IsWithin, is_blank, is_in_line, begins_comment, piece_of, token_piece, gap_length, name_piece, number_piece, fraction_length, whole_piece, sign_piece, token_at, token_then, tokens_behind, tokens_of}
-use Rattle.rely_lexer.specs.Readings.{HasForm, AreDigits, IsLongest, IsCause}
+use Rattle.rely_lexer.specs.Readings.{HasForm, AreDigits, IsLongest, IsCause, IsReading}
 use Rattle.rely_lexer.proofs.Pieces.{prefix_len-some, piece_of-within}
 use Rattle.rely_lexer.proofs.FormLemmas.{AreDigits-prefix, PieceFits, piece_of-fits}
-use Rattle.rely_lexer.proofs.LongestLaws.{short, first-of, is_word-first, first-same, reached, IsLongestPiece, piece_of-longest}
+use Rattle.rely_lexer.proofs.LongestLaws.{prefix-from-all, short, IsLongestFront, first-of, is_word-first, first-same, reached, IsLongestPiece, piece_of-longest}
+use Rattle.rely_lexer.proofs.ReadingLaws.{IsLongest-from_front}
 use Rattle.rely_lexer.proofs.FrontLaws.{place_of, Fronts, fronts-gap, fronts-token, fronts-here}
 use Rattle.rely_lexer.proofs.Behind.{behind-Gap, behind-Lexeme, behind-Wide, behind-Bad, behind-end}
 
@@ -30,7 +31,7 @@ PieceCause text (Gap n) = Unit {0}
 PieceCause text (Lexeme k n) = Unit {0}
 PieceCause text Wide =
     (is_blank (get_or text 0 0) ≡ false)
-    × ((n : ℕ) × (0 < n) × (n ≤ length text) × AreDigits (take n text) × (2 ^ 63 ≤ number_of (take n text)) × ((m : ℕ) (k : TokenKind) → m ≤ length text → HasForm k (take m text) → m ≤ n))
+    × ((n : ℕ) × (0 < n) × (n ≤ length text) × AreDigits (take n text) × (2 ^ 63 ≤ number_of (take n text)) × IsLongestFront text n)
 PieceCause text Bad = (is_blank (get_or text 0 0) ≡ false) × ((n : ℕ) (k : TokenKind) → 0 < n → n ≤ length text → HasForm k (take n text) → ⊥)
 
 -- an operator is a sign
@@ -68,6 +69,11 @@ sign-cause text None None is_two is_one letter digit blank = (
       (short text n k letter digit few form),
 )
 
+-- no comment begins with a digit
+digit-no-comment : (text : Bytes) → is_digit (get_or text 0 0) ≡ true → begins_comment text ≡ false
+digit-no-comment text digit =
+    and_left (get_or text 0 0 == 47) (get_or text 1 0 == 47) (ne_eqb (get_or text 0 0) 47 (λ e. false≢true (subst (λ (b : ℕ). is_digit b ≡ true) e digit)))
+
 whole-cause : (text : Bytes) → is_digit (get_or text 0 0) ≡ true → 0 < length text → is_blank (get_or text 0 0) ≡ false → fraction_length (drop (prefix_len is_digit text) text) ≤ 0 →
     PieceCause text (whole_piece (take (prefix_len is_digit text) text))
 unfolding whole_piece
@@ -84,7 +90,11 @@ whole-cause text digit some blank none =
         prefix_len-le-length is_digit text,
         AreDigits-prefix text digit,
         ltb-false v (2 ^ 63) wide,
-        λ m k few form. omega (arith, reached text digit some m k few form, none),
+        record {
+          token = λ m k few form. omega (arith, reached text digit some m k few form, none);
+          digits = λ m few digits. prefix-from-all is_digit text m few digits.1;
+          comment = digit-no-comment text digit;
+        },
       ),
     ))
 
@@ -125,11 +135,11 @@ token-refused token (Err d) e is = is
 
 -- why a text is refused at a place, whatever stands before it
 abbrev Here : Bytes → LexFault → Type 0
-Here text TooLong = 65536 < length text
+Here text TooLong = ⊥
 Here text (BadByte place) = (place < length text) × (is_blank (get_or text place 0) ≡ false) × ((end : ℕ) (k : TokenKind) → place < end → end ≤ length text → HasForm k (slice_range text place end) → ⊥)
 Here text (NumberWide place) =
     (end : ℕ) × (place < end) × (end ≤ length text) × AreDigits (slice_range text place end) × (2 ^ 63 ≤ number_of (slice_range text place end)) × IsLongest text place end
-Here text Memory = Unit {0}
+Here text Memory = ⊥
 
 -- why, and what stands before it
 record Caused (text : Bytes) (at : ℕ) (e : LexFault) : Type 0 where
@@ -144,7 +154,7 @@ wide-cause text at (blank, (n, some, few, digits, wide, longest)) inside =
       omega (arith, length-drop at text),
       subst (λ (k : ℕ). AreDigits (take k (drop at text))) size digits,
       subst (λ (k : ℕ). 2 ^ 63 ≤ number_of (take k (drop at text))) size wide,
-      λ end j inside form. omega (arith, longest (end - at) j (omega (arith, length-drop at text)) form),
+      IsLongest-from_front text at n longest,
     )
 
 bad-cause : (text : Bytes) (at : ℕ) → PieceCause (drop at text) Bad → at < length text → Here text (BadByte at)
@@ -199,22 +209,32 @@ tokens_behind-refused (suc left) text at e few read =
     ⊎_elim (λ inside. piece-refused text at e (piece_of (drop at text)) (λ to d later fits rest. tokens_behind-refused left text to d (omega arith) rest) inside refl read)
     (λ past. end-accepted text at e past read) (cases_lt at (length text))
 
-whole : (text : Bytes) (e : LexFault) → Caused text 0 e → IsCause text e
-whole text TooLong c = c.here
-whole text (BadByte place) c = let f = c.front in let h = c.here in ((f.tokens, f.are), h.0, h.1, h.2)
-whole text (NumberWide place) c = let f = c.front in ((f.tokens, f.are), c.here)
-whole text Memory c = tt
+whole : (text : Bytes) (e : LexFault) → length text ≤ 65536 → Caused text 0 e → IsReading text (Err e)
+whole text TooLong few c = absurd c.here
+whole text (BadByte place) few c = let f = c.front in let h = c.here in (few, (f.tokens, f.are), h.0, h.1, h.2)
+whole text (NumberWide place) few c = let f = c.front in (few, (f.tokens, f.are), c.here)
+whole text Memory few c = c.here
 
 -- a refusal has its cause
-pub tokens_of-refused : (text : Bytes) (e : LexFault) → tokens_of text ≡ Err e → IsCause text e
+pub tokens_of-refused : (text : Bytes) (e : LexFault) → tokens_of text ≡ Err e → IsReading text (Err e)
 unfolding tokens_of
 tokens_of-refused text e read =
-    cond_both (nat_lt 65536 (length text)) (Err TooLong) (tokens_behind text 0 0) (λ r. r ≡ Err e → IsCause text e)
-    (λ long is. let same : TooLong ≡ e = cc in subst (IsCause text) same (ltb-true 65536 (length text) long)) (λ _ is. whole text e (tokens_behind-refused (length text) text 0 e (omega arith) is)) read
+    cond_both (nat_lt 65536 (length text)) (Err TooLong) (tokens_behind text 0 0) (λ r. r ≡ Err e → IsReading text (Err e))
+    (λ long is. let same : TooLong ≡ e = cc in subst (λ (d : LexFault). IsReading text (Err d)) same (ltb-true 65536 (length text) long))
+    (λ short is. whole text e (ltb-false 65536 (length text) short) (tokens_behind-refused (length text) text 0 e (omega arith) is)) read
+
+cause_from_reading : (text : Bytes) (e : LexFault) → IsReading text (Err e) → IsCause text e
+cause_from_reading text TooLong is = is
+cause_from_reading text (BadByte place) is = is
+cause_from_reading text (NumberWide place) is = is
+cause_from_reading text Memory is = tt
+
+pub cause_of-refused : (text : Bytes) (e : LexFault) → tokens_of text ≡ Err e → IsCause text e
+cause_of-refused text e read = cause_from_reading text e (tokens_of-refused text e read)
 
 -- want of memory needs no cause
 pub cause_from_refusal : (text : Bytes) (e : LexFault) → (e ≡ Memory) ⊎ (tokens_of text ≡ Err e) → IsCause text e
 cause_from_refusal text e (inl memory) = subst (IsCause text) (sym memory) tt
-cause_from_refusal text e (inr read) = tokens_of-refused text e read
+cause_from_refusal text e (inr read) = cause_of-refused text e read
 
-pub ruleset causes = (tokens_of-refused, cause_from_refusal)
+pub ruleset causes = (cause_of-refused, cause_from_refusal)

@@ -1,5 +1,5 @@
 -- What the tokens of a text are, apart from how they are found: slices of the text in order, with gaps between them.
-use Rattle.std.specs.Prelude.{◌≡◌, ℕ, ◌^◌, ◌<◌, ◌≤◌, Bool, true, false, not, ◌&&◌, ◌||◌, ◌==◌, List, [], ◌∷◌, ◌++◌, length, drop, Some, IsTrue, slice_index, if◌then◌else◌}
+use Rattle.std.specs.Prelude.{◌≡◌, ℕ, ◌^◌, ◌<◌, ◌≤◌, Bool, true, false, not, ◌&&◌, ◌||◌, ◌==◌, List, [], ◌∷◌, ◌++◌, length, drop, Some, Result, Ok, Err, ◌↔◌, IsTrue, slice_index, if◌then◌else◌}
 use Rattle.std.specs.List.{list_all, slice_range}
 use Rattle.rely_num.specs.Texts.{Bytes, is_digit, is_name}
 use Rattle.rely_num.specs.AttoTexts.{number_of}
@@ -9,7 +9,7 @@ use Rattle.rely_lexer.specs.declared.token.TokenKind.TheVariants as kind
 use Rattle.rely_lexer.specs.declared.token.LexFault.{LexFault}
 use Rattle.rely_lexer.specs.declared.token.LexFault.TheVariants as fault
 use Rattle.rely_lexer.specs.Forms.{word_of, operator_of, is_mark}
-use Rattle.rely_lexer.specs.Tokens.{is_blank, begins_comment}
+use Rattle.rely_lexer.specs.Tokens.{is_blank, begins_comment, tokens_of}
 
 -- one digit or more
 abbrev pub AreDigits : Bytes → Type 0
@@ -30,9 +30,11 @@ is_gap ends inside [] = ends || not inside
 is_gap ends true (byte ∷ bytes) = is_gap ends (not (byte == 10)) bytes
 is_gap ends false (byte ∷ bytes) = if is_blank byte then is_gap ends false bytes else (begins_comment (byte ∷ bytes) && is_gap ends true bytes)
 
--- bytes from the one place that reach beyond the other don't have the form of a token
-abbrev pub IsLongest : Bytes → ℕ → ℕ → Type 0
-IsLongest text from to = (end : ℕ) (k : TokenKind) → end ≤ length text → HasForm k (slice_range text from end) → end ≤ to
+-- bytes from the one place that reach beyond the other are no token and no digits, and they begin no comment
+pub record IsLongest (text : Bytes) (from to : ℕ) : Type 0 where
+  pub token : (end : ℕ) (k : TokenKind) → end ≤ length text → HasForm k (slice_range text from end) → end ≤ to
+  pub digits : (end : ℕ) → end ≤ length text → AreDigits (slice_range text from end) → end ≤ to
+  pub comment : begins_comment (drop from text) ≡ false
 
 -- from a place on, the tokens are slices of the text, none empty, each the longest from its place on and behind the one before, and what stands between them is blanks and comments
 abbrev pub AreTokensFrom : Bytes → ℕ → List Token → Type 0
@@ -57,8 +59,29 @@ IsReadUpTo text place = (tokens : List Token) × AreTokensUpTo text 0 tokens pla
 abbrev pub IsCause : Bytes → LexFault → Type 0
 IsCause text fault.TooLong = 65536 < length text
 IsCause text (fault.BadByte place) =
-    IsReadUpTo text place × (place < length text) × (is_blank (slice_index text place) ≡ false) × ((end : ℕ) (k : TokenKind) → place < end → end ≤ length text → HasForm k (slice_range text place end) → ⊥)
+    (length text ≤ 65536) × IsReadUpTo text place × (place < length text) × (is_blank (slice_index text place) ≡ false)
+    × ((end : ℕ) (k : TokenKind) → place < end → end ≤ length text → HasForm k (slice_range text place end) → ⊥)
 IsCause text (fault.NumberWide place) =
-    IsReadUpTo text place
+    (length text ≤ 65536) × IsReadUpTo text place
     × ((end : ℕ) × (place < end) × (end ≤ length text) × AreDigits (slice_range text place end) × (2 ^ 63 ≤ number_of (slice_range text place end)) × IsLongest text place end)
 IsCause text fault.Memory = Unit {0}
+
+-- what a text is read as: its tokens, or why there are none
+abbrev pub IsReading : Bytes → Result (List Token) LexFault → Type 0
+IsReading text (Ok tokens) = (length text ≤ 65536) × AreTokensFrom text 0 tokens
+IsReading text (Err fault.Memory) = ⊥
+IsReading text (Err e) = IsCause text e
+
+-- ---- laws
+
+-- from a place on a text has one list of tokens at most
+abbrev pub OneList : Type 0
+OneList = (text : Bytes) (place : ℕ) (tokens others : List Token) → AreTokensFrom text place tokens → AreTokensFrom text place others → tokens ≡ others
+
+-- a text is refused for one reason at most, at one place
+abbrev pub OneRefusal : Type 0
+OneRefusal = (text : Bytes) (d e : LexFault) → IsReading text (Err d) → IsReading text (Err e) → d ≡ e
+
+-- a text has one reading, which is what the search from place to place finds
+abbrev pub OneReading : Type 0
+OneReading = (text : Bytes) (r : Result (List Token) LexFault) → IsReading text r ↔ (r ≡ tokens_of text)

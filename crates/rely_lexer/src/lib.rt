@@ -3,9 +3,11 @@
 
 mod forms;
 mod front;
+mod law;
 mod lex;
 mod piece;
 mod token;
 
+pub use law::{one_list, one_reading, one_refusal};
 pub use lex::tokens;
 pub use token::{LexFault, Token, TokenKind, Word};
