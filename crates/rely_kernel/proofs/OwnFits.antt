@@ -11,11 +11,11 @@ use Rattle.rely_kernel.specs.Rates.{named, own}
 use Rattle.rely_kernel.specs.Setting.{Fits, IsClosed, IsOn, SiteIsOn, SlotFits, kinds_of, open_mark}
 
 -- a list with nothing in both parts
-left_none : {X : Type 0} (xs ys : List X) → xs ++ ys ≡ [] → xs ≡ []
+pub left_none : {X : Type 0} (xs ys : List X) → xs ++ ys ≡ [] → xs ≡ []
 left_none [] ys e = refl
 left_none (x ∷ xs) ys e = absurd (cc)
 
-right_none : {X : Type 0} (xs ys : List X) → xs ++ ys ≡ [] → ys ≡ []
+pub right_none : {X : Type 0} (xs ys : List X) → xs ++ ys ≡ [] → ys ≡ []
 right_none [] ys e = e
 right_none (x ∷ xs) ys e = absurd (cc)
 
@@ -33,7 +33,7 @@ module _ {X : Type 0} (slot : X → Slot) (mark : X → Span) (count : X → ℕ
       one Free small rest e = absurd (cc)
 
 -- a part of what holds of each
-each_slot : (h : Hardware) (sites : List Site) → AllByRecursion (SiteIsOn h) sites → AllByRecursion (λ site. SlotFits (length (kinds_of h site.op)) site.kind) sites
+pub each_slot : (h : Hardware) (sites : List Site) → AllByRecursion (SiteIsOn h) sites → AllByRecursion (λ site. SlotFits (length (kinds_of h site.op)) site.kind) sites
 each_slot h [] on = tt
 each_slot h (site ∷ sites) on = (on.0.1, each_slot h sites on.1)
 
