@@ -12,10 +12,9 @@ use Rattle.rely_kernel.specs.Labels.{number, labels_of}
 use Rattle.rely_kernel.specs.Machine.{Config, Frame, Item, Call, Leave, Write, functions, right, callee, fresh, numbers_in, parameters, with_cell, argument_items, items, stmt_items}
 use Rattle.rely_kernel.specs.Text.{Expr, Stmt, block_of}
 use Rattle.rely_kernel.specs.Valid.{IsLinked, IsValid}
+use Rattle.rely_kernel.specs.Running.{All-fit, AllFine, Fine, pushed}
 use Rattle.rely_kernel.proofs.Balance.{Arity}
-use Rattle.rely_kernel.proofs.Callees.{pushed, call_right, place_arity, fine}
-use Rattle.rely_kernel.proofs.Fine.{Fine, AllFine}
-use Rattle.rely_kernel.proofs.Numbers.{All-fit}
+use Rattle.rely_kernel.proofs.Callees.{call_right, place_arity, fine}
 use Rattle.rely_kernel.proofs.Shape.{fresh_shape, shape_put, scalar_below}
 use Rattle.rely_machine.specs.declared.function.Function.{Function}
 use Rattle.rely_machine.specs.Going.{Counts, HasRows, IsRunning, Runs, Exceeds, Stands, Takes, standing, one_more, with_use, with_entry}

@@ -14,8 +14,8 @@ use Rattle.rely_kernel.specs.Labels.{labels_of}
 use Rattle.rely_kernel.specs.Machine.{Config, Item, functions, main, after, passed, trace, steps, items, IsFinished, right, cost_of}
 use Rattle.rely_kernel.specs.Text.{block_of}
 use Rattle.rely_kernel.specs.Valid.{IsLinked}
+use Rattle.rely_kernel.specs.Running.{AllFine}
 use Rattle.rely_kernel.proofs.Callees.{fine}
-use Rattle.rely_kernel.proofs.Fine.{AllFine}
 use Rattle.rely_kernel.proofs.Reach.{each_run_ends}
 use Rattle.rely_machine.specs.declared.function.Function.{Function}
 use Rattle.rely_machine.specs.declared.outcome.Outcome.{Outcome}

@@ -11,8 +11,8 @@ use Rattle.rely_kernel.specs.Labels.{InRange}
 use Rattle.rely_kernel.specs.Machine.{Config, Frame, Item, Push, Read, Elem, Op, Write, WriteElem, Result, Choose, While, Repeat, Enter, Call, Leave, act, chosen, expr_items, argument_items, items, label_of, leave, moment, moment_of, passed, right, right_by, stmt_items}
 use Rattle.rely_kernel.specs.Text.{Expr, Stmt, Block, done, ◌then◌, append, block_of}
 use Rattle.rely_kernel.specs.Valid.{ExprFits, AllFit, PlaceFits, AreLinked}
+use Rattle.rely_kernel.specs.Running.{AllFine, Fine}
 use Rattle.rely_kernel.proofs.Callees.{fine, place_arity}
-use Rattle.rely_kernel.proofs.Fine.{Fine, AllFine}
 use Rattle.rely_kernel.proofs.Shape.{scalar_below, array_below}
 use Rattle.rely_machine.specs.Run.{called}
 

@@ -8,6 +8,7 @@ pub mod EnergyBounds
 pub mod EnergyCaps
 pub mod EnergyCounts
 pub mod EnergyItems
+pub mod EnergyOwn
 pub mod EnergyRuns
 pub mod Holding
 pub mod Listing

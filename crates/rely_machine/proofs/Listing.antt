@@ -9,9 +9,8 @@ use Rattle.rely_kernel.specs.declared.setting.Store.{Store}
 use Rattle.rely_kernel.specs.Machine.{Item, argument_items, expr_items, items, stmt_items}
 use Rattle.rely_kernel.specs.Text.{block_of, expr_of, exprs_of, stmt_of}
 use Rattle.rely_kernel.specs.Valid.{AllFit, ExprFits}
-use Rattle.rely_kernel.proofs.Callees.{pushed}
-use Rattle.rely_kernel.proofs.Fine.{AllFine, Fine}
-use Rattle.rely_kernel.proofs.Numbers.{Fits, All-fit}
+use Rattle.rely_kernel.specs.Running.{All-fit, AllFine, Fine, pushed}
+use Rattle.rely_kernel.proofs.Numbers.{Fits}
 use Rattle.rely_machine.specs.declared.function.Function.{Function}
 use Rattle.rely_machine.specs.Going.{Counts, Runs, Exceeds, Stands, standing}
 use Rattle.rely_machine.proofs.Walking.{and_then, over, exceeds_first, exceeds_then, exceeds_over}

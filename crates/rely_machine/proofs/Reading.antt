@@ -15,7 +15,7 @@ use Rattle.rely_kernel.specs.Bound.{HasShape}
 use Rattle.rely_kernel.specs.Labels.{labels_of}
 use Rattle.rely_kernel.specs.Machine.{cell, size, functions}
 use Rattle.rely_kernel.specs.Valid.{IsLinked, IsValid, is_scalar, is_array}
-use Rattle.rely_kernel.proofs.Numbers.{All-fit}
+use Rattle.rely_kernel.specs.Running.{All-fit}
 use Rattle.rely_kernel.proofs.Shape.{size_scalar, array_below, shape_long}
 use Rattle.rely_machine.specs.declared.fault.RunFault.{RunFault}
 use Rattle.rely_machine.specs.declared.fault.RunFault.TheVariants as fault

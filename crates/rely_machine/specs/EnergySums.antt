@@ -1,15 +1,16 @@
 -- The energy of runs by what was counted: uses times the energies of labels, entries times what is held.
-use Rattle.std.specs.Prelude.{ℕ, suc, ◌+◌, ◌*◌, min, List, [], ◌∷◌, length, get_or, slice_get, slice_index, sum_by}
+use Rattle.std.specs.Prelude.{ℕ, suc, ◌+◌, ◌*◌, min, List, [], ◌∷◌, get_or, slice_get, slice_index, sum_by}
 use Rattle.std.specs.Option.{option_map_or}
 use Rattle.rely_hard.specs.declared.hardware.Hardware.{Hardware}
 use Rattle.rely_kernel.specs.declared.kernel.Kernel.{Kernel}
 use Rattle.rely_kernel.specs.declared.kernel.Linked.{Linked}
-use Rattle.rely_kernel.specs.declared.kernel.Site.{Site}
-use Rattle.rely_kernel.specs.declared.kernel.Var.{Var}
-use Rattle.rely_kernel.specs.Machine.{size}
-use Rattle.rely_kernel.specs.Rates.{named}
+use Rattle.rely_kernel.specs.declared.label.Label.{Label}
+use Rattle.rely_kernel.specs.declared.label.Label.TheVariants as label
+use Rattle.rely_kernel.specs.declared.setting.Setting.{Setting}
+use Rattle.rely_kernel.specs.Labels.{number}
+use Rattle.rely_kernel.specs.Rates.{own}
 use Rattle.rely_machine.specs.declared.outcome.Outcome.{Outcome}
-use Rattle.rely_machine.specs.Cost.{kind_energy, held}
+use Rattle.rely_machine.specs.Cost.{energy_of, hold}
 
 -- ---- sums
 
@@ -22,44 +23,42 @@ sum_from f a (x ∷ xs) = f a x + sum_from f (suc a) xs
 abbrev pub capped : ℕ → ℕ
 capped n = min n 18446744073709551615
 
--- ---- what a function uses and holds under its own kinds
+-- ---- energies of memories
 
-abbrev pub site_energy : Hardware → Site → ℕ
-site_energy h s = kind_energy h (named s.kind) s
+-- the energy of a read from the memory with that number
+abbrev pub read_energy : Hardware → ℕ → ℕ
+read_energy h memory = option_map_or (λ m. m.read_energy) (slice_get h.memories memory) 0
 
-abbrev pub read_energy : Hardware → Var → ℕ
-read_energy h v = option_map_or (λ m. m.read_energy) (slice_get h.memories (named v.memory)) 0
+-- the energy of a write to it
+abbrev pub write_energy : Hardware → ℕ → ℕ
+write_energy h memory = option_map_or (λ m. m.write_energy) (slice_get h.memories memory) 0
 
-abbrev pub write_energy : Hardware → Var → ℕ
-write_energy h v = option_map_or (λ m. m.write_energy) (slice_get h.memories (named v.memory)) 0
+-- ---- what a function uses under a setting, by the uses of its labels' numbers
 
--- the uses of the sites' labels, each times its energy
-abbrev pub of_sites : Hardware → (ℕ → ℕ) → List Site → ℕ
-of_sites h uses sites = sum_from (λ i s. uses i * site_energy h s) 0 sites
+-- the uses of a label, times its energy
+abbrev pub of_label : Hardware → Kernel → Setting → (ℕ → ℕ) → Label → ℕ
+of_label h k t uses l = uses (number k l) * energy_of h k t l
 
--- the uses of the variables' labels, which follow those of n sites
-abbrev pub of_vars : Hardware → (ℕ → ℕ) → ℕ → List Var → ℕ
-of_vars h uses n vars =
-    sum_from (λ v x. uses (n + 2 * v) * read_energy h x + uses (n + 2 * v + 1) * write_energy h x) 0 vars
+abbrev pub of_sites : Hardware → Kernel → Setting → (ℕ → ℕ) → ℕ
+of_sites h k t uses = sum_from (λ site _. of_label h k t uses (label.Op site)) 0 k.sites
 
-abbrev pub used : Hardware → Kernel → (ℕ → ℕ) → ℕ
-used h k uses = of_sites h uses k.sites + of_vars h uses (length k.sites) k.vars
+abbrev pub of_vars : Hardware → Kernel → Setting → (ℕ → ℕ) → ℕ
+of_vars h k t uses = sum_from (λ v _. of_label h k t uses (label.Read v) + of_label h k t uses (label.Write v)) 0 k.vars
 
--- the lengths of variables, each times the hold energy of its memory
-abbrev pub holding : Hardware → List Var → ℕ
-holding h vars = sum_by (λ v. size v * held h (named v.memory)) vars
+-- of all labels; a call has no energy of its own
+abbrev pub used : Hardware → Kernel → Setting → (ℕ → ℕ) → ℕ
+used h k t uses = of_sites h k t uses + of_vars h k t uses
 
 -- ---- runs
 
--- of a function that is reached
+-- of a function that is reached, under its own kinds: what it uses, and what each entry holds
 abbrev pub of_callee : Hardware → Outcome → ℕ → Kernel → ℕ
-of_callee h o f k = used h k (slice_index (get_or o.inner f [])) + slice_index o.entries f * holding h k.vars
+of_callee h o f k = used h k (own k) (slice_index (get_or o.inner f [])) + slice_index o.entries f * hold h k (own k)
 
--- of one run
-abbrev pub of_run : Hardware → Linked → Outcome → ℕ
-of_run h l o =
-    holding h l.kernel.vars + used h l.kernel (slice_index o.uses) + sum_from (of_callee h o) 0 l.inner
+-- of one run, under a setting of the function that runs
+abbrev pub of_run : Hardware → Linked → Setting → Outcome → ℕ
+of_run h l t o = hold h l.kernel t + used h l.kernel t (slice_index o.uses) + sum_from (of_callee h o) 0 l.inner
 
 -- of all
-abbrev pub of_runs : Hardware → Linked → List Outcome → ℕ
-of_runs h l runs = sum_by (of_run h l) runs
+abbrev pub of_runs : Hardware → Linked → Setting → List Outcome → ℕ
+of_runs h l t runs = sum_by (of_run h l t) runs

@@ -1,4 +1,5 @@
 pub mod Cost
 pub mod EnergySums
 pub mod Going
+pub mod Laws
 pub mod Run

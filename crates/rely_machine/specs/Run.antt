@@ -1,11 +1,12 @@
 -- The reliable run of a linked function: its end, and what is counted on the way.
-use Rattle.std.specs.Prelude.{ℕ, ◌≡◌, ◌≤◌, ◌==◌, ◌&&◌, Bool, false, List, [], ◌∷◌, map, length, slice_get, count_by, Option, None}
-use Rattle.std.specs.List.{range_with_len}
+use Rattle.std.specs.Prelude.{ℕ, ◌≡◌, ◌≤◌, ◌==◌, ◌&&◌, Bool, false, List, [], ◌∷◌, map, length, slice_get, count_by, All, Option, None}
+use Rattle.std.specs.List.{AllZip, range_with_len}
 use Rattle.std.specs.Option.{option_map_or}
 use Rattle.rely_kernel.specs.declared.kernel.Kernel.{Kernel}
 use Rattle.rely_kernel.specs.declared.kernel.Linked.{Linked}
 use Rattle.rely_kernel.specs.declared.label.Label.{Label}
 use Rattle.rely_kernel.specs.declared.setting.Store.{Store}
+use Rattle.rely_kernel.specs.Bound.{IsStart}
 use Rattle.rely_kernel.specs.Labels.{number, labels_of}
 use Rattle.rely_kernel.specs.Machine.{Config, Item, Call, functions, main, callee, begin, after, passed, trace, steps, IsFinished}
 use Rattle.rely_machine.specs.declared.outcome.Outcome.{Outcome}
@@ -66,3 +67,19 @@ pub record ReachesLimit (l : Linked) (start : Store) (limit : ℕ) : Type 0 wher
   pub end : Config
   pub run : IsRun l start n end
   pub steps : limit ≤ steps (functions l) n (first l start)
+
+-- ---- some runs
+
+-- so many runs at most are made at once
+abbrev pub most_runs : ℕ
+most_runs = 64
+
+-- and they stay together below so many steps
+abbrev pub steps_limit : ℕ
+steps_limit = 67108864
+
+-- outcomes of the function: those of the reliable runs from some of its starts
+pub record AreRuns (l : Linked) (runs : List Outcome) : Type 0 where
+  pub starts : List Store
+  pub are_starts : All (IsStart l.kernel) starts
+  pub outcomes : AllZip (IsOutcome l) starts runs

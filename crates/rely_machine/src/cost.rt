@@ -1,4 +1,4 @@
-ghost use Rattle.std.specs.Prelude.{◌≡◌, ◌+◌, ◌*◌, ◌<◌, ◌≤◌, List, [], get_or, length, slice_get, slice_index, sum_by};
+ghost use Rattle.std.specs.Prelude.{◌≡◌, ◌<◌, ◌≤◌, List, [], get_or, length, slice_get, slice_index, sum_by};
 ghost use Rattle.std.specs.List.{AllZip};
 ghost use Rattle.std.specs.Option.{option_map_or};
 ghost use Rattle.rely_num.specs.Ops.{is_op};
@@ -7,9 +7,9 @@ ghost use Rattle.rely_kernel.specs.declared.setting.Store.{Store};
 ghost use Rattle.rely_kernel.specs.Machine.{size};
 ghost use Rattle.rely_kernel.specs.Rates.{named, own};
 ghost use Rattle.rely_kernel.specs.Valid.{IsLinked};
-ghost use Rattle.rely_machine.specs.Cost.{IsCost, held};
-ghost use Rattle.rely_machine.specs.EnergySums.{capped, holding, of_callee, of_run, of_runs, of_sites, of_vars, read_energy, site_energy, sum_from, used, write_energy};
-ghost use Rattle.rely_machine.specs.Run.{IsOutcome};
+ghost use Rattle.rely_machine.specs.Cost.{IsCost, held, hold, kind_energy};
+ghost use Rattle.rely_machine.specs.EnergySums.{capped, of_callee, of_run, of_runs, of_sites, of_vars, read_energy, sum_from, used, write_energy};
+ghost use Rattle.rely_machine.specs.Run.{IsOutcome, most_runs, steps_limit};
 
 use crate::outcome::Outcome;
 use rely_hard::{Hardware, KindSpec};
@@ -20,8 +20,8 @@ use rely_num::Op;
 pub fn energy(k: &Linked, h: &Hardware, runs: &[Outcome]) -> u64
     requires linked { IsLinked k.now }
     requires hardware { IsHardware h.now }
-    requires few { sum_by (λ o. o.steps) runs.now < 67108864 }
-    requires short { length runs.now ≤ 64 }
+    requires few { sum_by (λ o. o.steps) runs.now < steps_limit }
+    requires short { length runs.now ≤ most_runs }
     ensures cost { (starts : List Store) → AllZip (IsOutcome k.now) starts runs.now
         → IsCost h.now k.now (own k.now.kernel) starts result }
 {
@@ -29,7 +29,7 @@ pub fn energy(k: &Linked, h: &Hardware, runs: &[Outcome]) -> u64
 }
 
 fn energy_of_runs(k: &Linked, h: &Hardware, runs: &[Outcome]) -> u64
-    ensures { result ≡ capped (of_runs h.now k.now runs.now) }
+    ensures { result ≡ capped (of_runs h.now k.now (own k.now.kernel) runs.now) }
 {
     let mut total = 0_u64;
     for run in runs {
@@ -39,9 +39,9 @@ fn energy_of_runs(k: &Linked, h: &Hardware, runs: &[Outcome]) -> u64
 }
 
 fn energy_of_run(k: &Linked, h: &Hardware, run: &Outcome) -> u64
-    ensures { result ≡ capped (of_run h.now k.now run.now) }
+    ensures { result ≡ capped (of_run h.now k.now (own k.now.kernel) run.now) }
 {
-    let held = held(h, k.kernel.vars.as_slice());
+    let held = held(h, &k.kernel);
     let own = held.saturating_add(used(&k.kernel, h, run.uses.as_slice()));
     own.saturating_add(of_callees(k.inner.as_slice(), h, run))
 }
@@ -61,21 +61,21 @@ fn of_callee(k: &Kernel, h: &Hardware, run: &Outcome, f: usize) -> u64
     ensures { result ≡ capped (of_callee h.now run.now f k.now) }
 {
     let uses = used(k, h, uses_of(run.inner.as_slice(), f));
-    let held = number_at(run.entries.as_slice(), f).saturating_mul(held(h, k.vars.as_slice()));
+    let held = number_at(run.entries.as_slice(), f).saturating_mul(held(h, k));
     uses.saturating_add(held)
 }
 
 // What a function uses: how often each of its labels was taken, times the label's energy.
 fn used(k: &Kernel, h: &Hardware, uses: &[u64]) -> u64
-    ensures { result ≡ capped (used h.now k.now (slice_index uses.now)) }
+    ensures { result ≡ capped (used h.now k.now (own k.now) (slice_index uses.now)) }
 {
-    let sites = k.sites.as_slice();
-    of_sites(h, sites, uses).saturating_add(of_vars(h, sites, k.vars.as_slice(), uses))
+    of_sites(h, k, uses).saturating_add(of_vars(h, k, uses))
 }
 
-fn of_sites(h: &Hardware, sites: &[Site], uses: &[u64]) -> u64
-    ensures { result ≡ capped (of_sites h.now (slice_index uses.now) sites.now) }
+fn of_sites(h: &Hardware, k: &Kernel, uses: &[u64]) -> u64
+    ensures { result ≡ capped (of_sites h.now k.now (own k.now) (slice_index uses.now)) }
 {
+    let sites = k.sites.as_slice();
     let mut total = 0_u64;
     for (i, site) in sites.iter().enumerate() {
         total = total.saturating_add(number_at(uses, i).saturating_mul(site_energy(h, site)));
@@ -84,9 +84,11 @@ fn of_sites(h: &Hardware, sites: &[Site], uses: &[u64]) -> u64
 }
 
 // The labels of variables follow those of the sites, the read before the write.
-fn of_vars(h: &Hardware, sites: &[Site], vars: &[Var], uses: &[u64]) -> u64
-    ensures { result ≡ capped (of_vars h.now (slice_index uses.now) (length sites.now) vars.now) }
+fn of_vars(h: &Hardware, k: &Kernel, uses: &[u64]) -> u64
+    ensures { result ≡ capped (of_vars h.now k.now (own k.now) (slice_index uses.now)) }
 {
+    let sites = k.sites.as_slice();
+    let vars = k.vars.as_slice();
     let mut total = 0_u64;
     for (v, var) in vars.iter().enumerate() {
         let label = sites.len() + 2 * v;
@@ -98,9 +100,10 @@ fn of_vars(h: &Hardware, sites: &[Site], vars: &[Var], uses: &[u64]) -> u64
 }
 
 // What it costs to hold the variables.
-fn held(h: &Hardware, vars: &[Var]) -> u64
-    ensures { result ≡ capped (holding h.now vars.now) }
+fn held(h: &Hardware, k: &Kernel) -> u64
+    ensures { result ≡ capped (hold h.now k.now (own k.now)) }
 {
+    let vars = k.vars.as_slice();
     let mut total = 0_u64;
     for var in vars {
         total = total.saturating_add(size(var).saturating_mul(hold(h, var)));
@@ -120,7 +123,7 @@ fn size(var: &Var) -> u64
 // ---- energies, and 0 where the hardware hasn't the number
 
 fn site_energy(h: &Hardware, site: &Site) -> u64
-    ensures { result ≡ site_energy h.now site.now }
+    ensures { result ≡ kind_energy h.now (named site.now.kind) site.now }
 {
     for operator in h.operators.as_slice() {
         if same_operator(operator.op, site.op) {
@@ -146,7 +149,7 @@ fn kind_energy(kinds: &[KindSpec], kind: usize) -> u64
 }
 
 fn read_energy(h: &Hardware, var: &Var) -> u64
-    ensures { result ≡ read_energy h.now var.now }
+    ensures { result ≡ read_energy h.now (named var.now.memory) }
 {
     match h.memories.as_slice().get(number(var.memory)) {
         Some(memory) => u64::from(memory.read_energy),
@@ -155,7 +158,7 @@ fn read_energy(h: &Hardware, var: &Var) -> u64
 }
 
 fn write_energy(h: &Hardware, var: &Var) -> u64
-    ensures { result ≡ write_energy h.now var.now }
+    ensures { result ≡ write_energy h.now (named var.now.memory) }
 {
     match h.memories.as_slice().get(number(var.memory)) {
         Some(memory) => u64::from(memory.write_energy),

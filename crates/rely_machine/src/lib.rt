@@ -6,6 +6,7 @@ mod cost;
 mod fault;
 mod function;
 mod held;
+mod laws;
 mod lists;
 mod outcome;
 mod reliable;
@@ -16,6 +17,9 @@ mod walk;
 pub use cost::energy;
 pub use fault::RunFault;
 pub use held::Held;
+pub use laws::{
+    cost_by_uses, cost_is_bounded, has_outcome, one_cost, one_outcome, reaches_by_outcome,
+};
 pub use outcome::Outcome;
 pub use reliable::run;
 pub use value::operate;

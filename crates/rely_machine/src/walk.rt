@@ -2,9 +2,7 @@ ghost use Rattle.std.specs.Prelude.{◌≡◌, ◌∷◌, length, IfOk, OnOk, Er
 ghost use Rattle.rely_kernel.specs.Machine.{argument_items, expr_items, functions, items, stmt_items};
 ghost use Rattle.rely_kernel.specs.Text.{Stmt, block_of, expr_of, exprs_of, stmt_of};
 ghost use Rattle.rely_kernel.specs.Valid.{AllFit, ExprFits};
-ghost use Rattle.rely_kernel.proofs.Callees.{pushed};
-ghost use Rattle.rely_kernel.proofs.Fine.{AllFine, Fine};
-ghost use Rattle.rely_kernel.proofs.Numbers.{All-fit};
+ghost use Rattle.rely_kernel.specs.Running.{All-fit, AllFine, Fine, pushed};
 ghost use Rattle.rely_machine.specs.Going.{Exceeds, IsRunning, Runs};
 ghost use Rattle.rely_machine.specs.declared.fault.RunFault.TheVariants as fault;
 

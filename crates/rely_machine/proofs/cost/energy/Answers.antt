@@ -1,3 +1,4 @@
+use Rattle.rely_kernel.specs.Rates.{own}
 use Rattle.rely_machine.proofs.EnergyRuns.{runs_cost}
 use Rattle.rely_machine.proofs.cost.energy.Goals as goal
 
@@ -5,5 +6,5 @@ pub returns : goal.returns
 returns c =
     record {
       cost = λ starts a. rw c.energy_of_runs.ensures
-          (runs_cost c.args.h.now c.requires.hardware c.args.k.now c.requires.linked starts c.args.runs.now c.requires.few c.requires.short a);
+          (runs_cost c.args.h.now c.args.k.now (own c.args.k.now.kernel) starts c.args.runs.now c.requires.hardware c.requires.linked c.requires.few c.requires.short a);
     }

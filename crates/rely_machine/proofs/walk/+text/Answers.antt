@@ -4,7 +4,7 @@ use Rattle.std.proofs.lemmas.Option.{slice_get_read}
 use Rattle.std.proofs.lemmas.Result.{on_ok_weaker}
 use Rattle.rely_kernel.specs.Machine.{Call, Repeat, While, Write, fresh, functions, items, stmt_items}
 use Rattle.rely_kernel.specs.Text.{Stmt, block_of, expr_of, exprs_of, stmt_of}
-use Rattle.rely_kernel.proofs.Fine.{Fine}
+use Rattle.rely_kernel.specs.Running.{Fine}
 use Rattle.rely_kernel.proofs.TextLemmas.{text-If, text-While, text-Repeat}
 use Rattle.rely_machine.specs.Going.{Exceeds, Runs, with_entry}
 use Rattle.rely_machine.proofs.Calling.{arity, callee_fine, callee_running, callee_valid, call_goes, call_known, call_label, call_smaller, call_stops_body, call_stops_enter, call_stops_write}

@@ -3,7 +3,7 @@ use Rattle.std.proofs.lemmas.List.{take_all}
 use Rattle.std.proofs.lemmas.Option.{slice_get_read}
 use Rattle.rely_kernel.specs.Machine.{argument_items}
 use Rattle.rely_kernel.specs.Text.{exprs_of}
-use Rattle.rely_kernel.proofs.Callees.{pushed}
+use Rattle.rely_kernel.specs.Running.{pushed}
 use Rattle.rely_machine.specs.Going.{Runs}
 use Rattle.rely_machine.proofs.Listing.{arg_next, arg_stops, fit_at, exprs_long}
 use Rattle.rely_machine.proofs.Reading.{steps_from}

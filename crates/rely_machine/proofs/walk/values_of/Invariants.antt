@@ -1,8 +1,7 @@
 use Rattle.std.proofs.Common.{◌≡◌, length, take}
 use Rattle.rely_kernel.specs.Machine.{argument_items}
 use Rattle.rely_kernel.specs.Text.{exprs_of}
-use Rattle.rely_kernel.proofs.Callees.{pushed}
-use Rattle.rely_kernel.proofs.Numbers.{All-fit}
+use Rattle.rely_kernel.specs.Running.{All-fit, pushed}
 use Rattle.rely_machine.specs.Going.{Runs}
 use Rattle.rely_machine.proofs.walk.values_of.Given as goal
 
