@@ -1,0 +1,8 @@
+pub mod Sums
+pub mod Sequences
+pub mod Choices
+pub mod Partials
+pub mod Relaxation
+pub mod Closings
+pub mod Fixings
+pub mod Steps

@@ -1,0 +1,10 @@
+pub mod Choices
+pub mod Closings
+pub mod Fixing
+pub mod Lagrangian
+pub mod Least
+pub mod Partials
+pub mod Soundness
+pub mod Sums
+pub mod Tables
+pub mod Valid
