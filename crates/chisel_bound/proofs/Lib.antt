@@ -1,0 +1,8 @@
+pub mod Lists
+pub mod Grids
+pub mod Ascents
+pub mod Ranges
+pub mod Adding
+pub mod Debits
+pub mod Putting
+pub mod Keeps

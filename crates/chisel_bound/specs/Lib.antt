@@ -1,0 +1,8 @@
+pub mod Pool
+pub mod Grid
+pub mod Ascent
+pub mod BoundsAt
+pub mod Columns
+pub mod Written
+pub mod Rows
+pub mod Kept

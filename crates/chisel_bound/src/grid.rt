@@ -1,0 +1,82 @@
+//! A number for each option of each decision: what the options spend under a vector, in one pass over the rows.
+ghost use Rattle.std.specs.Prelude.{ℕ, ◌≡◌, ◌+◌, ◌*◌, ◌<◌, ◌≤◌, ◌^◌, length, slice_index};
+ghost use Rattle.chisel_table.specs.declared.lagrangian.TheConstants.{ENERGY_WEIGHT};
+ghost use Rattle.chisel_table.specs.declared.table.TheConstants.{MAX_OPTIONS};
+ghost use Rattle.chisel_table.specs.Lagrangian.{IsVector, penalty};
+ghost use Rattle.chisel_table.specs.Tables.{decision_count, row_count};
+ghost use Rattle.chisel_table.specs.Valid.{IsTable};
+ghost use Rattle.chisel_bound.specs.Grid.{Adds, HasRoom, Holds, IsLeastPlace, penalty_to, weighed};
+
+use crate::table::debits_of;
+use chisel_table::{ENERGY_WEIGHT, MAX_OPTIONS, Table, decision_count, row_count};
+
+/// Writes the penalty of each option: what it spends in each row, times the row's multiplier.
+///
+/// Rows stand in memory one behind the other, so they are gone through once, and not once for each option.
+pub(crate) fn write_penalties(t: &Table, l: &[u64], grid: &mut [u128])
+    requires table { IsTable t.now }
+    requires vector { IsVector t.now l.now }
+    requires size { length grid.old ≡ MAX_OPTIONS * decision_count t.now }
+    ensures { Holds t.now (penalty t.now l.now) grid.new }
+{
+    grid.fill(0);
+    for i in 0..row_count(t) {
+        if l[i] > 0 {
+            add_row(t, l, i, grid);
+        }
+    }
+}
+
+// Adds what each option spends in the next row.
+fn add_row(t: &Table, l: &[u64], row: usize, grid: &mut [u128])
+    requires table { IsTable t.now }
+    requires vector { IsVector t.now l.now }
+    requires row { row < row_count t.now }
+    requires grid { Holds t.now (penalty_to t.now l.now row) grid.old }
+    ensures { Holds t.now (penalty_to t.now l.now (row + 1)) grid.new }
+{
+    let multiplier = l[row];
+    for d in 0..decision_count(t) {
+        let spent = debits_of(t, row, d);
+        add_multiples(grid, MAX_OPTIONS * d, multiplier, spent);
+    }
+}
+
+// Adds multiples of what options spend to their places, which begin at `from`.
+fn add_multiples(grid: &mut [u128], from: usize, multiplier: u64, spent: &[u64])
+    requires { HasRoom grid.old from multiplier spent.now (2 ^ 128) }
+    ensures { Adds grid.old from multiplier spent.now grid.new }
+{
+    for o in 0..spent.len() {
+        grid[from + o] += multiplier as u128 * spent[o] as u128;
+    }
+}
+
+/// The first option of the least weight: its energy, times a scale, and its penalty.
+pub(crate) fn least_option(scale: u64, energies: &[u64], penalties: &[u128]) -> usize
+    requires scale { scale ≤ ENERGY_WEIGHT }
+    requires some { 0 < length energies.now }
+    requires each { length energies.now ≤ length penalties.now }
+    requires below { (o : ℕ) → o < length energies.now → slice_index penalties.now o ≤ 2 ^ 113 }
+    ensures { IsLeastPlace (length energies.now) (weighed scale energies.now penalties.now) result }
+{
+    let mut least = 0;
+    for o in 1..energies.len() {
+        if weight(scale, energies, penalties, o) < weight(scale, energies, penalties, least) {
+            least = o;
+        }
+    }
+    least
+}
+
+/// An option's energy, times a scale, and its penalty.
+pub(crate) fn weight(scale: u64, energies: &[u64], penalties: &[u128], option: usize) -> u128
+    requires scale { scale ≤ ENERGY_WEIGHT }
+    requires energy { option < length energies.now }
+    requires penalty { option < length penalties.now }
+    requires below { slice_index penalties.now option ≤ 2 ^ 113 }
+    ensures value { result ≡ weighed scale energies.now penalties.now option }
+    ensures bound { result ≤ 2 ^ 114 }
+{
+    scale as u128 * energies[option] as u128 + penalties[option]
+}

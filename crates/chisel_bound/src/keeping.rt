@@ -1,0 +1,146 @@
+//! The first rule that closes a partial choice, from the bounds and the row sums that a search keeps.
+ghost use Rattle.std.specs.Prelude.{◌≡◌, ◌*◌, ◌<◌, ◌^◌, ◌-ℤ◌, length, slice_index, int_lt, pos};
+ghost use Rattle.chisel_table.specs.declared.lagrangian.TheConstants.{ENERGY_WEIGHT};
+ghost use Rattle.chisel_table.specs.declared.table.TheConstants.{MAX_DECISIONS};
+ghost use Rattle.chisel_table.specs.Choices.{IsChoice, precedes};
+ghost use Rattle.chisel_table.specs.Closings.{first_close};
+ghost use Rattle.chisel_table.specs.Partials.{IsPartial, first_option};
+ghost use Rattle.chisel_table.specs.Sums.{first_to};
+ghost use Rattle.chisel_table.specs.Valid.{IsTable};
+ghost use Rattle.chisel_bound.specs.BoundsAt.{bounds_at};
+ghost use Rattle.chisel_bound.specs.Rows.{excess_at};
+
+use crate::bounds::Bounds;
+use crate::differences::Differences;
+use crate::rows::RowSums;
+use chisel_table::{
+    Close, CloseRule, ENERGY_WEIGHT, MAX_DECISIONS, Partial, Table, decision_count,
+};
+use rely_num::List;
+
+/// The options of the best choice so far, with its energy.
+#[derive(Debug, Drop)]
+pub struct Best {
+    pub options: List<u8>,
+    pub energy: u64,
+}
+
+impl Best {
+    // The energy in the weight of bounds.
+    fn weighted_energy(&self) -> i128
+        ensures { result ≡ pos (ENERGY_WEIGHT * self.now.energy) }
+    {
+        ENERGY_WEIGHT as i128 * self.energy as i128
+    }
+
+    // The same of an energy less by one, which is below zero where there is no energy.
+    fn tied_energy(&self) -> i128
+        ensures { result ≡ pos (ENERGY_WEIGHT * self.now.energy) -ℤ pos ENERGY_WEIGHT }
+    {
+        self.weighted_energy() - ENERGY_WEIGHT as i128
+    }
+}
+
+impl Differences<'_> {
+    ghost use Rattle.chisel_bound.specs.Kept.{AreDifferences, AreRowSums, IsBestWithEnergy, best_options, bounds_of};
+
+    /// The first rule that closes the partial choice of the row sums, with these bounds of it.
+    pub fn closes(&self, bounds: &[Bounds], rows: &RowSums, best: Option<&Best>) -> Option<Close>
+        requires differences { AreDifferences self.now }
+        requires rows { AreRowSums self.now.table.now rows.now }
+        requires bounds { bounds.now ≡ bounds_of self.now.table.now self.now.pool.now.vectors rows.now.partial }
+        requires best { IsBestWithEnergy self.now.table.now best }
+        ensures { result ≡ first_close self.now.table.now self.now.pool.now.vectors (best_options best.entry) rows.now.partial }
+    {
+        if let Some(index) = first_row_above(&rows.excesses) {
+            let rule = CloseRule::C;
+            return Some(Close { rule, index });
+        }
+        if let Some(index) = first_excess_above(bounds) {
+            let rule = CloseRule::I;
+            return Some(Close { rule, index });
+        }
+        let Some(best) = best else {
+            return None;
+        };
+        if let Some(index) = first_value_above(bounds, best.weighted_energy()) {
+            let rule = CloseRule::D;
+            return Some(Close { rule, index });
+        }
+        let Some(index) = first_value_above(bounds, best.tied_energy()) else {
+            return None;
+        };
+        if first_precedes(self.table, &rows.partial, best.options.as_slice()) {
+            return None;
+        }
+        let rule = CloseRule::T;
+        Some(Close { rule, index })
+    }
+}
+
+// The first row whose excess is positive.
+fn first_row_above(excesses: &[i128]) -> Option<u32>
+    requires { length excesses.now < 2 ^ 32 }
+    ensures { result ≡ first_to (length excesses.now) (λ i. int_lt (pos 0) (excess_at excesses.now i)) }
+{
+    for i in 0..excesses.len() {
+        if excesses[i] > 0 {
+            return Some(i as u32);
+        }
+    }
+    None
+}
+
+// The first vector whose excess is positive.
+fn first_excess_above(bounds: &[Bounds]) -> Option<u32>
+    requires { length bounds.now < 2 ^ 32 }
+    ensures { result ≡ first_to (length bounds.now) (λ j. int_lt (pos 0) (bounds_at bounds.now j).excess) }
+{
+    for j in 0..bounds.len() {
+        if bounds[j].excess > 0 {
+            return Some(j as u32);
+        }
+    }
+    None
+}
+
+// The first vector whose value is above a limit.
+fn first_value_above(bounds: &[Bounds], limit: i128) -> Option<u32>
+    requires { length bounds.now < 2 ^ 32 }
+    ensures { result ≡ first_to (length bounds.now) (λ j. int_lt limit (bounds_at bounds.now j).value) }
+{
+    for j in 0..bounds.len() {
+        if bounds[j].value > limit {
+            return Some(j as u32);
+        }
+    }
+    None
+}
+
+// Whether the first completion of a partial choice has options before these.
+fn first_precedes(t: &Table, p: &Partial, options: &[u8]) -> bool
+    requires table { IsTable t.now }
+    requires partial { IsPartial t.now p.now }
+    requires choice { IsChoice t.now options.now }
+    ensures { result ≡ precedes t.now (first_option p.now) (slice_index options.now) }
+{
+    for d in 0..decision_count(t) {
+        let first = first_option(p, d);
+        if first != options[d] {
+            return first < options[d];
+        }
+    }
+    false
+}
+
+// The fixed option of a decision, and the first where none is fixed.
+fn first_option(p: &Partial, decision: usize) -> u8
+    requires { decision < MAX_DECISIONS }
+    ensures { result ≡ first_option p.now decision }
+{
+    if p.is_unfixed(decision) {
+        0
+    } else {
+        p.slots[decision]
+    }
+}
