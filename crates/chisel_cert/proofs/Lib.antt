@@ -1,0 +1,10 @@
+pub mod Sound
+pub mod Nodes
+pub mod Each
+pub mod Grown
+pub mod Numbers
+pub mod Readings
+pub mod LineTexts
+pub mod NodeTexts
+pub mod Texts
+pub mod Writing

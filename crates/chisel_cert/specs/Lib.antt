@@ -1,0 +1,9 @@
+pub mod Tree
+pub mod Node
+pub mod Valid
+pub mod Text
+pub mod Ranges
+pub mod State
+pub mod Lines
+pub mod Reading
+pub mod Laws
