@@ -1,0 +1,12 @@
+use Rattle.std.proofs.Common.{◌≡◌, ◌++◌}
+use Rattle.chisel_make.specs.Draws.{after}
+use Rattle.chisel_make.specs.Made.{bytes}
+use Rattle.chisel_make.proofs.made.bytes.Given as goal
+
+abbrev pub invariant-loop-left : goal.invariant-loop-left
+invariant-loop-left l =
+    (bytes l.initial.count l.initial.draws.state ≡ l.text.items ++ bytes l.left l.draws.state)
+    × (after l.initial.count l.initial.draws.state ≡ after l.left l.draws.state)
+
+abbrev pub decreases-loop-left : goal.decreases-loop-left
+decreases-loop-left l = l.left
