@@ -1,6 +1,6 @@
 -- The verdict, rule by rule, and what it says.
 use Rattle.std.proofs.Common.{◌≡◌, ℕ, ◌≤◌, Bool, true, false, List, [], ◌∷◌, length, map, Some, None, Option, refl, sym, ap, subst, ◌∙◌}
-use Rattle.std.specs.Prelude.{nat_lt, find, fold, min, filter_map, slice_get, option_map, if◌then◌else◌}
+use Rattle.std.specs.Prelude.{nat_lt, find, fold, min, option_map, if◌then◌else◌}
 use Rattle.std.specs.List.{AllByRecursion}
 use Rattle.std.specs.Option.{option_map_or}
 use Rattle.std.proofs.lemmas.Bool.{ltb-true, ltb-false}
@@ -8,6 +8,8 @@ use Rattle.std.proofs.lemmas.List.Elements.{All-from_recursion, recursion_from_A
 use Rattle.rely_num.specs.Bounds.{S}
 use Rattle.rely_num.specs.declared.conj.Conj.{Conj}
 use Rattle.rely_num.proofs.Gaps.{gap_product}
+use Rattle.rely_num.proofs.RoundedDown.{under_product}
+use Rattle.rely_num.proofs.RoundedUp.{over_product}
 use Rattle.rely_hard.specs.Valid.{IsHardware}
 use Rattle.rely_hard.specs.declared.hardware.Hardware.{Hardware}
 use Rattle.rely_kernel.specs.declared.kernel.Claim.{Claim}
@@ -19,13 +21,14 @@ use Rattle.rely_kernel.specs.Rates.{rates}
 use Rattle.rely_kernel.specs.Valid.{IsValid}
 use Rattle.rely_kernel.proofs.Tally.{rates_long}
 use Rattle.rely_predicate.specs.Top.{top}
-use Rattle.rely_verdict.specs.Judged.{lo, hi, outside, verdict, AreCounted, IsNear}
+use Rattle.rely_verdict.specs.Judged.{lo, hi, first_outside, verdict, AreCounted, IsEnclosed, IsNear, NeedsIsFirstOutside, ProductsEnclose}
 use Rattle.rely_verdict.specs.Soundness.{Vouches}
 use Rattle.rely_verdict.specs.declared.verdict.Verdict.{Verdict}
 use Rattle.rely_verdict.specs.declared.verdict.Verdict.TheVariants.{Needs, Below, Undecided, Accepted}
-use Rattle.rely_verdict.proofs.AcceptedLaw.{none_found}
+use Rattle.rely_verdict.proofs.AcceptedLaw.{accepted_vouches}
+use Rattle.rely_verdict.proofs.FirstOutside.{first_is, first_from}
 use Rattle.rely_verdict.proofs.RatesFit.{AreRates, rates_fit}
-use Rattle.rely_verdict.proofs.Vouched.{accepted_vouches}
+use Rattle.rely_verdict.proofs.Steps.{none_found}
 
 -- ---- the first rule that some conjunct meets
 
@@ -44,19 +47,31 @@ none_is : {X : Type 0} (g : Conj → X) (f : Conj → Verdict) (b : Option Conj)
 none_is g f None d e = refl
 none_is g f (Some c) d e = absurd (cc)
 
+-- the verdicts differ
+not_below : (x v : ℕ) → Below x ≡ Needs v → ⊥
+not_below x v e = cc
+
+-- so do these
+not_undecided : (x y v : ℕ) → Undecided x y ≡ Needs v → ⊥
+not_undecided x y v e = cc
+
+-- and these
+not_accepted : (x v : ℕ) → Accepted x ≡ Needs v → ⊥
+not_accepted x v e = cc
+
 -- a variable outside the needs
-pub needs_verdict : (rs : List ℕ) (needs bound : ℕ) (cs : List Conj) (v : ℕ) → slice_get (filter_map (outside needs) cs) 0 ≡ Some v → Needs v ≡ verdict rs needs bound cs
+pub needs_verdict : (rs : List ℕ) (needs bound : ℕ) (cs : List Conj) (v : ℕ) → first_outside needs cs ≡ Some v → Needs v ≡ verdict rs needs bound cs
 unfolding verdict
 needs_verdict rs needs bound cs v e = rw e refl
 
 -- or a product below the bound
-pub below_verdict : (rs : List ℕ) (needs bound : ℕ) (cs : List Conj) (x : ℕ) → slice_get (filter_map (outside needs) cs) 0 ≡ None
+pub below_verdict : (rs : List ℕ) (needs bound : ℕ) (cs : List Conj) (x : ℕ) → first_outside needs cs ≡ None
     → option_map (hi rs) (find (λ c. nat_lt (hi rs c) bound) cs) ≡ Some x → Below x ≡ verdict rs needs bound cs
 unfolding verdict
 below_verdict rs needs bound cs x none e = rw none (image_is (hi rs) (find (λ c. nat_lt (hi rs c) bound) cs) x _ e)
 
 -- or one that is left undecided
-pub undecided_verdict : (rs : List ℕ) (needs bound : ℕ) (cs : List Conj) (v : Verdict) → slice_get (filter_map (outside needs) cs) 0 ≡ None
+pub undecided_verdict : (rs : List ℕ) (needs bound : ℕ) (cs : List Conj) (v : Verdict) → first_outside needs cs ≡ None
     → option_map (hi rs) (find (λ c. nat_lt (hi rs c) bound) cs) ≡ None
     → option_map (λ c. Undecided (lo rs c) (hi rs c)) (find (λ c. nat_lt (lo rs c) bound) cs) ≡ Some v → v ≡ verdict rs needs bound cs
 unfolding verdict
@@ -66,7 +81,7 @@ undecided_verdict rs needs bound cs v none above e =
     ∙ none_is (hi rs) (λ c. Below (hi rs c)) (find (λ c. nat_lt (hi rs c) bound) cs) _ above)
 
 -- or none of these
-pub accepted_verdict : (rs : List ℕ) (needs bound : ℕ) (cs : List Conj) (m : ℕ) → slice_get (filter_map (outside needs) cs) 0 ≡ None
+pub accepted_verdict : (rs : List ℕ) (needs bound : ℕ) (cs : List Conj) (m : ℕ) → first_outside needs cs ≡ None
     → option_map (hi rs) (find (λ c. nat_lt (hi rs c) bound) cs) ≡ None
     → option_map (λ c. Undecided (lo rs c) (hi rs c)) (find (λ c. nat_lt (lo rs c) bound) cs) ≡ None → m ≡ fold min S (map (lo rs) cs) → Accepted m ≡ verdict rs needs bound cs
 unfolding verdict
@@ -75,6 +90,36 @@ accepted_verdict rs needs bound cs m none above enough e =
     (ap Accepted e
     ∙ none_is (λ c. Undecided (lo rs c) (hi rs c)) (λ c. Undecided (lo rs c) (hi rs c)) (find (λ c. nat_lt (lo rs c) bound) cs) (Accepted (fold min S (map (lo rs) cs))) enough
     ∙ none_is (hi rs) (λ c. Below (hi rs c)) (find (λ c. nat_lt (hi rs c) bound) cs) _ above)
+
+-- only a variable outside the needs gives such a verdict
+needs_first : (rs : List ℕ) (v m : ℕ) (o : Option ℕ) (b u : Option Conj)
+    → option_map_or Needs o (option_map_or (λ c. Below (hi rs c)) b (option_map_or (λ c. Undecided (lo rs c) (hi rs c)) u (Accepted m))) ≡ Needs v → o ≡ Some v
+needs_first rs v m (Some w) b u e = let same : w ≡ v = cc in ap Some same
+needs_first rs v m None (Some c) u e = absurd (not_below (hi rs c) v e)
+needs_first rs v m None None (Some c) e = absurd (not_undecided (lo rs c) (hi rs c) v e)
+needs_first rs v m None None None e = absurd (not_accepted m v e)
+
+-- which no rate and no bound changes
+pub needs_is_first_outside : NeedsIsFirstOutside
+unfolding verdict
+needs_is_first_outside rs needs bound v cs = (
+  λ e. first_is needs cs v
+      (needs_first rs v (fold min S (map (lo rs) cs)) (first_outside needs cs) (find (λ c. nat_lt (hi rs c) bound) cs) (find (λ c. nat_lt (lo rs c) bound) cs) e),
+  λ a. sym (needs_verdict rs needs bound cs v (first_from needs cs v a)),
+)
+
+-- ---- the products of each conjunct
+
+-- with one count for each rate
+enclosed : (rs : List ℕ) (c : Conj) → AreRates rs → length rs ≡ length c.counts → IsEnclosed rs c
+enclosed rs c fit long = record {
+  under = under_product rs c.counts long;
+  over = over_product rs c.counts long;
+  near = gap_product rs c.counts long (All-from_recursion (λ r. r ≤ S) rs fit);
+}
+
+pub products_enclose : ProductsEnclose
+products_enclose h k t c hardware valid long = enclosed (rates h k t) c (rates_fit h k t hardware valid.call_bounds) (rates_long h k t ∙ sym long)
 
 -- ---- an undecided verdict came near
 
@@ -90,7 +135,7 @@ found_has p P (x ∷ cs) c e h = by_test (p x) refl e (λ k. found_has p P cs c 
 -- the bound is between the two products of the reported conjunct
 verdict_near : (rs : List ℕ) (needs bound : ℕ) (cs : List Conj) → AreRates rs → AllByRecursion (λ c. length rs ≡ length c.counts) cs → IsNear rs bound cs (verdict rs needs bound cs)
 unfolding verdict
-verdict_near rs needs bound cs fit long = by_outside (slice_get (filter_map (outside needs) cs) 0)
+verdict_near rs needs bound cs fit long = by_outside (first_outside needs cs)
   where
     by_undecided : (u : Option Conj) → find (λ c. nat_lt (lo rs c) bound) cs ≡ u → AllByRecursion (λ c. nat_lt (hi rs c) bound ≡ false) cs
         → IsNear rs bound cs (option_map_or (λ c. Undecided (lo rs c) (hi rs c)) u (Accepted (fold min S (map (lo rs) cs))))
@@ -105,7 +150,7 @@ verdict_near rs needs bound cs fit long = by_outside (slice_get (filter_map (out
           most_is = refl;
           below = ltb-true (lo rs c) bound upper.0;
           above = ltb-false (hi rs c) bound upper.1;
-          near = gap_product rs c.counts counted.1 (All-from_recursion (λ r. r ≤ S) rs fit);
+          near = (enclosed rs c fit counted.1).near;
         }
 
     by_below : (b : Option Conj) → find (λ c. nat_lt (hi rs c) bound) cs ≡ b

@@ -1,4 +1,4 @@
-ghost use Rattle.std.specs.Prelude.{◌≡◌, ℕ, ◌<◌, length, map, min, find, fold, filter_map, slice_get, option_map, nat_lt};
+ghost use Rattle.std.specs.Prelude.{◌≡◌, ℕ, ◌<◌, length, map, min, find, fold, option_map, nat_lt};
 ghost use Rattle.rely_num.specs.Bounds.{S};
 ghost use Rattle.rely_hard.specs.Valid.{IsHardware};
 ghost use Rattle.rely_kernel.specs.Paths.{paths_of};
@@ -6,7 +6,7 @@ ghost use Rattle.rely_kernel.specs.Rates.{rates};
 ghost use Rattle.rely_kernel.specs.Setting.{Fits};
 ghost use Rattle.rely_kernel.specs.Valid.{IsValid};
 ghost use Rattle.rely_predicate.specs.Top.{top};
-ghost use Rattle.rely_verdict.specs.Judged.{lo, hi, outside, verdict, AreCounted, IsNear};
+ghost use Rattle.rely_verdict.specs.Judged.{lo, hi, outside, first_outside, verdict, AreCounted, IsNear};
 ghost use Rattle.rely_verdict.specs.Soundness.{Vouches};
 
 use crate::product::{lower, upper};
@@ -51,9 +51,10 @@ pub fn judge_conjuncts(
     }
 }
 
-// The least variable outside the needs, of the first conjunct that has one.
-fn first_outside(needs: VarSet, conjuncts: &[Conj]) -> Option<u32>
-    ensures { result ≡ slice_get (filter_map (outside needs.bits) conjuncts.now) 0 }
+/// The variable of a `needs` verdict, which no setting changes: the least variable outside the needs, of the first conjunct
+/// that has one.
+pub fn first_outside(needs: VarSet, conjuncts: &[Conj]) -> Option<u32>
+    ensures { result ≡ first_outside needs.bits conjuncts.now }
 {
     for conjunct in conjuncts {
         let var = outside(needs, conjunct);

@@ -17,7 +17,8 @@ use rely_predicate::Predicate;
 
 /// Judges a claim by its predicate, by the rules of `judge_conjuncts` over its conjuncts. It takes no memory.
 ///
-/// Where the predicate is the top of the claim's paths, an accepted claim's bound holds in every forest of runs.
+/// Where the predicate is the top of the claim's paths, an accepted claim's bound holds in every forest of runs, wherever the
+/// kernel stands in a linked list whose callees keep theirs: so a callee that is judged serves its callers.
 pub fn judge(k: &Kernel, p: &Predicate, c: &Claim, h: &Hardware, t: &Setting) -> Verdict
     requires valid { IsValid k.now }
     requires hardware { IsHardware h.now }
