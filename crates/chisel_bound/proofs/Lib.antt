@@ -6,3 +6,4 @@ pub mod Adding
 pub mod Debits
 pub mod Putting
 pub mod Keeps
+mod Examples

@@ -1,11 +1,12 @@
 -- The bounds that a search keeps for a partial choice, and what fixing one more decision adds to them.
 use Rattle.std.specs.Prelude.{ℕ, ◌≡◌, ◌+◌, ◌*◌, ◌<◌, ◌≤◌, List, length, map, slice_range, Option, Some, None, pos, ◌-ℤ◌}
 use Rattle.std.specs.Borrow.{Bor}
+use Rattle.chisel_table.specs.declared.closing.Close.{Close}
 use Rattle.chisel_table.specs.declared.partial.Partial.{Partial}
 use Rattle.chisel_table.specs.declared.table.Table.{Table}
 use Rattle.chisel_table.specs.declared.table.TheConstants.{MAX_DECISIONS, MAX_OPTIONS}
 use Rattle.chisel_table.specs.Choices.{IsChoice, energy}
-use Rattle.chisel_table.specs.Closings.{vector_at}
+use Rattle.chisel_table.specs.Closings.{first_close, vector_at}
 use Rattle.chisel_table.specs.Lagrangian.{penalty, price, value, excess, row_excess}
 use Rattle.chisel_table.specs.Partials.{IsPartial}
 use Rattle.chisel_table.specs.Sums.{least_to, list_to}
@@ -62,6 +63,18 @@ pub record AreDifferences (d : Differences) : Type 0 where
   pub few : length d.pool.now.vectors ≤ MAX_VECTORS
   pub added : AreAdded d.table.now d.pool.now.vectors d.added.items
   pub columns : AreColumns d.table.now d.columns.items
+
+-- the bounds of a partial choice with their table and pool
+abbrev pub all_bounds : Differences → Partial → List Bounds
+all_bounds d p = bounds_of d.table.now d.pool.now.vectors p
+
+-- a partial choice whose bounds are put behind those of a list
+abbrev pub kept_behind : List Bounds → Partial → Kept
+kept_behind bounds p = record { partial = p; from = length bounds }
+
+-- the first rule that closes a partial choice of their table, with their pool
+abbrev pub first_rule : Differences → Option (List ℕ) → Partial → Option Close
+first_rule d best p = first_close d.table.now d.pool.now.vectors best p
 
 -- ---- rows
 

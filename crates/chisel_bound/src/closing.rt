@@ -1,11 +1,11 @@
 //! The first rule that closes a partial choice, from the table alone.
-ghost use Rattle.std.specs.Prelude.{◌≡◌, length, option_copied};
-ghost use Rattle.chisel_table.specs.Closings.{IsBest, first_close, row_closes, vector_at, vector_closes};
+ghost use Rattle.std.specs.Prelude.{◌≡◌, option_copied};
+ghost use Rattle.chisel_table.specs.Closings.{IsBest, first_close, row_closes};
 ghost use Rattle.chisel_table.specs.Partials.{IsPartial};
 ghost use Rattle.chisel_table.specs.Sums.{first_to};
 ghost use Rattle.chisel_table.specs.Tables.{row_count};
 ghost use Rattle.chisel_table.specs.Valid.{IsTable};
-ghost use Rattle.chisel_bound.specs.Pool.{IsPool, options_of};
+ghost use Rattle.chisel_bound.specs.Pool.{IsPool, first_with, options_of};
 
 use crate::pool::Pool;
 use chisel_table::{
@@ -79,7 +79,7 @@ fn first_vector(
     requires pool { IsPool t.now pool.now.vectors }
     requires partial { IsPartial t.now p.now }
     requires best { IsBest t.now (option_copied best) }
-    ensures { result ≡ first_to (length pool.now.vectors) (λ j. vector_closes t.now (option_copied best.entry) p.now rule (vector_at pool.now.vectors j)) }
+    ensures { result ≡ first_with t.now pool.now.vectors (option_copied best.entry) p.now rule }
 {
     let vectors = pool.vectors.as_slice();
     for j in 0..vectors.len() {

@@ -30,7 +30,7 @@ pub struct Differences<'a> {
 }
 
 impl<'a> Differences<'a> {
-    ghost use Rattle.chisel_bound.specs.Kept.{AreDifferences, IsKept, bounds_of};
+    ghost use Rattle.chisel_bound.specs.Kept.{AreDifferences, IsKept, all_bounds, kept_behind};
 
     /// The differences of a table and a pool. Want of memory is the only error.
     pub fn new(
@@ -68,8 +68,8 @@ impl<'a> Differences<'a> {
     /// The partial choice that fixes nothing, whose bounds are appended to the list.
     pub fn start(&self, bounds: &mut Vec<Bounds>) -> Result<Kept, AllocError>
         requires { AreDifferences self.now }
-        ensures start { IfOk result (λ k. k ≡ record { partial = nothing_fixed self.now.table.now; from = length bounds.old.items }) }
-        ensures bounds { IfOk result (λ k. bounds.new.items ≡ bounds.old.items ++ bounds_of self.now.table.now self.now.pool.now.vectors k.partial) }
+        ensures start { IfOk result (λ k. k ≡ kept_behind bounds.old.items (nothing_fixed self.now.table.now)) }
+        ensures bounds { IfOk result (λ k. bounds.new.items ≡ bounds.old.items ++ all_bounds self.now k.partial) }
     {
         let partial = Partial::nothing_fixed(self.table);
         let from = bounds.len();
@@ -95,8 +95,9 @@ impl<'a> Differences<'a> {
         requires decision { decision < decision_count self.now.table.now }
         requires unfixed { is_unfixed taken.now.partial decision ≡ true }
         requires option { option < option_count self.now.table.now decision }
-        ensures child { IfOk result (λ k. k ≡ record { partial = with_option taken.now.partial decision option; from = length bounds.old.items }) }
-        ensures bounds { IfOk result (λ k. bounds.new.items ≡ bounds.old.items ++ bounds_of self.now.table.now self.now.pool.now.vectors k.partial) }
+        ensures child { IfOk result
+            (λ k. k ≡ kept_behind bounds.old.items (with_option taken.now.partial decision option)) }
+        ensures bounds { IfOk result (λ k. bounds.new.items ≡ bounds.old.items ++ all_bounds self.now k.partial) }
     {
         let from = bounds.len();
         let place = MAX_OPTIONS * decision + option as usize;

@@ -1,14 +1,13 @@
 //! The first rule that closes a partial choice, from the bounds and the row sums that a search keeps.
-ghost use Rattle.std.specs.Prelude.{◌≡◌, ◌*◌, ◌<◌, ◌^◌, ◌-ℤ◌, length, slice_index, int_lt, pos};
+ghost use Rattle.std.specs.Prelude.{◌≡◌, ◌*◌, ◌<◌, ◌^◌, ◌-ℤ◌, length, slice_index, pos};
 ghost use Rattle.chisel_table.specs.declared.lagrangian.TheConstants.{ENERGY_WEIGHT};
 ghost use Rattle.chisel_table.specs.declared.table.TheConstants.{MAX_DECISIONS};
 ghost use Rattle.chisel_table.specs.Choices.{IsChoice, precedes};
-ghost use Rattle.chisel_table.specs.Closings.{first_close};
 ghost use Rattle.chisel_table.specs.Partials.{IsPartial, first_option};
 ghost use Rattle.chisel_table.specs.Sums.{first_to};
 ghost use Rattle.chisel_table.specs.Valid.{IsTable};
-ghost use Rattle.chisel_bound.specs.BoundsAt.{bounds_at};
-ghost use Rattle.chisel_bound.specs.Rows.{excess_at};
+ghost use Rattle.chisel_bound.specs.BoundsAt.{has_excess, is_above};
+ghost use Rattle.chisel_bound.specs.Rows.{is_exceeded};
 
 use crate::bounds::Bounds;
 use crate::differences::Differences;
@@ -42,15 +41,15 @@ impl Best {
 }
 
 impl Differences<'_> {
-    ghost use Rattle.chisel_bound.specs.Kept.{AreDifferences, AreRowSums, IsBestWithEnergy, best_options, bounds_of};
+    ghost use Rattle.chisel_bound.specs.Kept.{AreDifferences, AreRowSums, IsBestWithEnergy, all_bounds, best_options, first_rule};
 
     /// The first rule that closes the partial choice of the row sums, with these bounds of it.
     pub fn closes(&self, bounds: &[Bounds], rows: &RowSums, best: Option<&Best>) -> Option<Close>
         requires differences { AreDifferences self.now }
         requires rows { AreRowSums self.now.table.now rows.now }
-        requires bounds { bounds.now ≡ bounds_of self.now.table.now self.now.pool.now.vectors rows.now.partial }
+        requires bounds { bounds.now ≡ all_bounds self.now rows.now.partial }
         requires best { IsBestWithEnergy self.now.table.now best }
-        ensures { result ≡ first_close self.now.table.now self.now.pool.now.vectors (best_options best.entry) rows.now.partial }
+        ensures { result ≡ first_rule self.now (best_options best.entry) rows.now.partial }
     {
         if let Some(index) = first_row_above(&rows.excesses) {
             let rule = CloseRule::C;
@@ -81,7 +80,7 @@ impl Differences<'_> {
 // The first row whose excess is positive.
 fn first_row_above(excesses: &[i128]) -> Option<u32>
     requires { length excesses.now < 2 ^ 32 }
-    ensures { result ≡ first_to (length excesses.now) (λ i. int_lt (pos 0) (excess_at excesses.now i)) }
+    ensures { result ≡ first_to (length excesses.now) (is_exceeded excesses.now) }
 {
     for i in 0..excesses.len() {
         if excesses[i] > 0 {
@@ -94,7 +93,7 @@ fn first_row_above(excesses: &[i128]) -> Option<u32>
 // The first vector whose excess is positive.
 fn first_excess_above(bounds: &[Bounds]) -> Option<u32>
     requires { length bounds.now < 2 ^ 32 }
-    ensures { result ≡ first_to (length bounds.now) (λ j. int_lt (pos 0) (bounds_at bounds.now j).excess) }
+    ensures { result ≡ first_to (length bounds.now) (has_excess bounds.now) }
 {
     for j in 0..bounds.len() {
         if bounds[j].excess > 0 {
@@ -107,7 +106,7 @@ fn first_excess_above(bounds: &[Bounds]) -> Option<u32>
 // The first vector whose value is above a limit.
 fn first_value_above(bounds: &[Bounds], limit: i128) -> Option<u32>
     requires { length bounds.now < 2 ^ 32 }
-    ensures { result ≡ first_to (length bounds.now) (λ j. int_lt limit (bounds_at bounds.now j).value) }
+    ensures { result ≡ first_to (length bounds.now) (is_above limit bounds.now) }
 {
     for j in 0..bounds.len() {
         if bounds[j].value > limit {
