@@ -1,0 +1,5 @@
+pub mod Search
+pub mod Rules
+pub mod Printed
+pub mod Found
+pub mod Laws
