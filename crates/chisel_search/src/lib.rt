@@ -3,12 +3,10 @@
 //! laws, and the closures that give it its order stand here; no code searches yet.
 #![tactic(auto)]
 
-mod found;
 mod law;
 mod part;
 mod rule;
 
-pub use found::{Found, SearchFault};
 pub use law::{functions_run_once, rules_certify_once, runs_end, runs_find_least};
 pub use part::Part;
 pub use rule::{Pick, Rule};
