@@ -6,8 +6,8 @@ use Rattle.rely_num.specs.declared.span.Span.{Span}
 use Rattle.rely_lexer.specs.declared.token.Token.{Token}
 use Rattle.rely_lexer.specs.declared.token.TokenKind.{TokenKind}
 use Rattle.rely_lexer.specs.declared.token.TokenKind.TheVariants as kind
-use Rattle.rely_lexer.specs.declared.token.Word.{Word}
-use Rattle.rely_lexer.specs.declared.token.Word.TheVariants as word
+use Rattle.rely_num.specs.declared.word.Word.{Word}
+use Rattle.rely_num.specs.declared.word.Word.TheVariants as word
 use Rattle.rely_lexer.specs.Tokens.{tokens_of}
 use Rattle.rely_tree.specs.Tree.{IdentTree, ExprTree, BinTree, StmtTree, SetTree, SetElemTree, IfTree, WhileTree, RepeatTree, ReturnTree, CallTree, Block, ended, also, FuncTree, UnitTree}
 use Rattle.rely_parser.specs.State.{State, Read, end_of, place, first_at, skip_at, ident_at, name_at, operator_at, skip_word_at, count_at}

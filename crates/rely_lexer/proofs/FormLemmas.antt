@@ -1,21 +1,23 @@
 -- The token at the front of a text has its form.
-use Rattle.std.proofs.Common.{◌≡◌, ◌≢◌, ℕ, suc, ◌+◌, ◌^◌, ◌<◌, ◌&&◌, ◌||◌, ◌==◌, nat_lt, Bool, true, false, not, cond, List, [], ◌∷◌, ◌++◌, map, take, drop, length, get_or, Option, Some, None, refl, ap, sym, ◌∙◌, subst, arith, length-take, if◌then◌else◌, option_map, unwrap_or}
-use Rattle.std.specs.Option.{option_or}
+use Rattle.std.proofs.Common.{◌≡◌, ◌≢◌, ℕ, suc, ◌+◌, ◌^◌, ◌<◌, ◌&&◌, ◌==◌, nat_lt, Bool, true, false, not, cond, [], ◌∷◌, ◌++◌, take, drop, length, get_or, Option, Some, None, refl, ap, sym, ◌∙◌, subst, arith, length-take, if◌then◌else◌, option_map, unwrap_or}
+use Rattle.std.specs.Option.{option_or, is_some}
 use Rattle.std.specs.List.{prefix_len, list_all}
 use Rattle.std.proofs.lemmas.Bool.{ltb-true, cond_both, and_from, and_parts, false≢true, eqb-true, both_ways, or_left}
 use Rattle.std.proofs.lemmas.List.{take_min}
 use Rattle.rely_lexer.proofs.Pieces.{prefix_len-some}
 use Rattle.std.proofs.lemmas.List.Folds.{length-prefix_len}
 use Rattle.std.proofs.Math.Seq.{take-add}
-use Rattle.rely_num.specs.Texts.{Bytes, is_digit, is_letter, is_name_byte, is_word, is_among, same_text, reserved}
+use Rattle.rely_num.specs.Ops.{op_of}
+use Rattle.rely_num.specs.Texts.{Bytes, is_digit, is_letter, is_name_byte, is_word, is_among, reserved, word_of}
+use Rattle.rely_num.proofs.Searches.{word_among}
 use Rattle.rely_num.specs.AttoTexts.{number_of}
 use Rattle.rely_num.specs.declared.op.Op.{Op}
-use Rattle.rely_lexer.specs.declared.token.Word.{Word}
+use Rattle.rely_num.specs.declared.word.Word.{Word}
 use Rattle.rely_lexer.specs.declared.token.TokenKind.{TokenKind}
 use Rattle.rely_lexer.specs.declared.token.TokenKind.TheVariants as kind
 use Rattle.rely_lexer.specs.declared.piece.Piece.{Piece}
 use Rattle.rely_lexer.specs.declared.piece.Piece.TheVariants.{Gap, Lexeme, Wide, Bad}
-use Rattle.rely_lexer.specs.Forms.{lookup, words, word_of, operator_of, name_kind, mark_kind, is_mark, alone, sign_kind}
+use Rattle.rely_lexer.specs.Forms.{name_kind, mark_kind, is_mark, alone, sign_kind}
 use Rattle.rely_lexer.specs.Tokens.{piece_of, token_piece, gap_length, name_piece, number_piece, fraction_length, whole_piece, sign_piece, signed}
 use Rattle.rely_lexer.specs.Readings.{HasForm, AreDigits}
 
@@ -38,22 +40,11 @@ AreDigits-prefix (byte ∷ bytes) digit =
     let text = byte ∷ bytes in
     (omega (arith, length-prefix_len is_digit text, prefix_len-some is_digit text (omega arith) digit), list_all-prefix is_digit text)
 
--- a text that a table lacks isn't among its keys
-is_among-keys : {A : Type 0} (text : Bytes) (rows : List (Bytes × A)) → lookup text rows ≡ None → is_among text (map (λ row. row.0) rows) ≡ false
-is_among-keys text [] none = refl
-is_among-keys {A} text ((key, value) ∷ rows) none =
-    lacks (same_text text key) (is_among text (map (λ row. row.0) rows)) none (is_among-keys text rows)
-  where
-    lacks : (b behind : Bool) → cond b (Some value) (lookup text rows) ≡ None → (lookup text rows ≡ None → behind ≡ false) → (b || behind) ≡ false
-    lacks true behind none more = absurd (cc)
-    lacks false behind none more = more none
-
 -- a word that isn't reserved is a name
 name-form : (text : Bytes) (found : Option Word) → is_word text ≡ true → word_of text ≡ found → HasForm (unwrap_or (option_map kind.Word found) kind.Name) text
-unfolding word_of
 name-form text (Some w) word is = is
 name-form text None word is =
-    let free : is_among text reserved ≡ false = is_among-keys text words is in
+    let free : is_among text reserved ≡ false = word_among text ∙ ap is_some is in
     and_from (is_word text) (not (is_among text reserved)) word (ap not free)
 
 -- the longest name is a letter, and then letters and digits
@@ -91,7 +82,7 @@ alone-form (byte ∷ []) k taken = mark-form (is_mark byte) byte k refl taken
 alone-form (byte ∷ next ∷ bytes) k taken = absurd (cc)
 
 -- an operator or a mark
-sign-form : (text : Bytes) (k : TokenKind) (found : Option Op) → operator_of text ≡ found → option_or (option_map kind.Oper found) (alone text) ≡ Some k → HasForm k text
+sign-form : (text : Bytes) (k : TokenKind) (found : Option Op) → op_of text ≡ found → option_or (option_map kind.Oper found) (alone text) ≡ Some k → HasForm k text
 sign-form text k (Some o) is taken = let e : kind.Oper o ≡ k = cc in subst (λ (j : TokenKind). HasForm j text) e is
 sign-form text k None is taken = alone-form text k taken
 
@@ -137,7 +128,7 @@ IfFits text (Some piece) = PieceFits text piece
 signed-fits : (text sign : Bytes) (found : Option TokenKind) → sign_kind sign ≡ found → take (length sign) text ≡ sign → IfFits text (option_map (λ k. Lexeme k (length sign)) found)
 unfolding sign_kind
 signed-fits text sign None is front = tt
-signed-fits text sign (Some k) is front = subst (HasForm k) (sym front) (sign-form sign k (operator_of sign) refl is)
+signed-fits text sign (Some k) is front = subst (HasForm k) (sym front) (sign-form sign k (op_of sign) refl is)
 
 -- the first of two pieces that fit, or a bad byte
 first-fits : (text : Bytes) (two one : Option Piece) → IfFits text two → IfFits text one → PieceFits text (unwrap_or (option_or two one) Bad)
@@ -180,7 +171,7 @@ digits-first (digit ∷ more) fraction bytes is digits =
 
 -- no token begins with a newline
 not-newline : (k : TokenKind) (bytes : Bytes) → HasForm k (10 ∷ bytes) → ⊥
-unfolding word_of operator_of
+unfolding word_of op_of
 not-newline kind.Name bytes form = false≢true form
 not-newline (kind.Word w) bytes form = cc
 not-newline (kind.Number n) bytes form = false≢true form.0.1

@@ -1,18 +1,21 @@
 -- Bytes have the form of one token at most.
-use Rattle.std.proofs.Common.{◌≡◌, ℕ, ◌^◌, ◌<◌, ◌&&◌, ◌||◌, ◌==◌, nat_lt, Bool, true, false, not, cond, List, [], ◌∷◌, ◌++◌, map, codes, length, get_or, Some, refl, ap, sym, ◌∙◌, subst, arith, ⊎_elim}
+use Rattle.std.proofs.Common.{◌≡◌, ℕ, ◌^◌, ◌<◌, ◌&&◌, ◌||◌, ◌==◌, nat_lt, Bool, true, false, not, cond, [], ◌∷◌, ◌++◌, codes, length, get_or, Some, refl, ap, sym, ◌∙◌, subst, arith, ⊎_elim}
 use Rattle.std.specs.List.{list_all, list_any}
+use Rattle.std.specs.Option.{is_some}
 use Rattle.std.proofs.lemmas.Bool.{and_parts, both_ways, false≢true, eqb-true, or_cases, not-true, false_from_ne_true}
 use Rattle.std.proofs.lemmas.Bool.Decides.{nat_tests}
-use Rattle.rely_num.specs.Texts.{Bytes, is_digit, is_letter, is_word, is_among, same_text, reserved}
+use Rattle.rely_num.specs.Ops.{ops, op_text, op_of}
+use Rattle.rely_num.specs.Texts.{Bytes, is_digit, is_letter, is_word, is_among, reserved, word_of}
+use Rattle.rely_num.proofs.Searches.{word_among}
 use Rattle.rely_num.specs.AttoTexts.{number_of}
 use Rattle.rely_num.specs.declared.op.Op.{Op}
-use Rattle.rely_lexer.specs.declared.token.Word.{Word}
+use Rattle.rely_num.specs.declared.word.Word.{Word}
 use Rattle.rely_lexer.specs.declared.token.TokenKind.{TokenKind}
 use Rattle.rely_lexer.specs.declared.token.TokenKind.TheVariants as kind
-use Rattle.rely_lexer.specs.Forms.{lookup, words, operators, word_of, operator_of, is_mark}
+use Rattle.rely_lexer.specs.Forms.{is_mark}
 use Rattle.rely_lexer.specs.Tokens.{is_blank}
 use Rattle.rely_lexer.specs.Readings.{HasForm, AreDigits}
-use Rattle.rely_lexer.proofs.LongestLaws.{lookup-keys, is_word-first, digits-first, letter-or-digit, first-of}
+use Rattle.rely_lexer.proofs.LongestLaws.{found-passes, is_word-first, digits-first, letter-or-digit, first-of}
 
 -- ---- how tokens begin
 
@@ -31,9 +34,9 @@ mark-symbol : (byte : ℕ) → is_mark byte ≡ true → is_symbol byte ≡ true
 unfolding is_symbol
 mark-symbol byte is = any-passes is_symbol byte (codes "(){}[],;=.?") is refl
 
-operator-symbol : (text : Bytes) (o : Op) → operator_of text ≡ Some o → is_symbol (get_or text 0 0) ≡ true
-unfolding operator_of is_symbol
-operator-symbol text o is = lookup-keys (λ t. is_symbol (get_or t 0 0)) text operators o is refl
+operator-symbol : (text : Bytes) (o : Op) → op_of text ≡ Some o → is_symbol (get_or text 0 0) ≡ true
+unfolding op_of is_symbol
+operator-symbol text o is = found-passes (λ t. is_symbol (get_or t 0 0)) op_text ops text o is refl
 
 symbol-parts : (byte : ℕ) → is_symbol byte ≡ true → (is_letter byte ≡ false) × (is_digit byte ≡ false) × (is_blank byte ≡ false)
 unfolding is_symbol
@@ -92,21 +95,10 @@ form-blank (kind.Oper o) text form = (symbol-parts (get_or text 0 0) (operator-s
 
 -- ---- tokens that begin alike
 
--- a text that a table has is among its keys
-among-keys : {A : Type 0} (text : Bytes) (rows : List (Bytes × A)) (value : A) → lookup text rows ≡ Some value → is_among text (map (λ row. row.0) rows) ≡ true
-among-keys text [] value is = absurd (cc)
-among-keys {A} text ((key, first) ∷ rows) value is =
-    has (same_text text key) (is_among text (map (λ row. row.0) rows)) is (among-keys text rows value)
-  where
-    has : (b behind : Bool) → cond b (Some first) (lookup text rows) ≡ Some value → (lookup text rows ≡ Some value → behind ≡ true) → (b || behind) ≡ true
-    has true behind is more = refl
-    has false behind is more = more is
-
 -- no reserved word is a name
 name-or-word : (text : Bytes) (w : Word) → HasForm kind.Name text → word_of text ≡ Some w → ⊥
-unfolding word_of
 name-or-word text w name word =
-    both_ways (is_among text reserved) (not-true (is_among text reserved) (and_parts (is_word text) (not (is_among text reserved)) name).1) (among-keys text words w word)
+    both_ways (is_among text reserved) (not-true (is_among text reserved) (and_parts (is_word text) (not (is_among text reserved)) name).1) (word_among text ∙ ap is_some word)
 
 -- no point is among digits
 pub point-or-digits : (whole fraction : Bytes) → list_all is_digit (whole ++ 46 ∷ fraction) ≡ true → ⊥
@@ -118,10 +110,10 @@ is_unmarked : Bytes → Bool
 is_unmarked text = not (is_mark (get_or text 0 0)) || nat_lt 1 (length text)
 
 -- no operator is a mark
-mark-or-operator : (byte : ℕ) (text : Bytes) (o : Op) → text ≡ byte ∷ [] → is_mark byte ≡ true → operator_of text ≡ Some o → ⊥
-unfolding operator_of is_unmarked
+mark-or-operator : (byte : ℕ) (text : Bytes) (o : Op) → text ≡ byte ∷ [] → is_mark byte ≡ true → op_of text ≡ Some o → ⊥
+unfolding op_of is_unmarked
 mark-or-operator byte text o alone mark is =
-    let unmarked : is_unmarked (byte ∷ []) ≡ true = subst (λ (t : Bytes). is_unmarked t ≡ true) alone (lookup-keys is_unmarked text operators o is refl) in
+    let unmarked : is_unmarked (byte ∷ []) ≡ true = subst (λ (t : Bytes). is_unmarked t ≡ true) alone (found-passes is_unmarked op_text ops text o is refl) in
     ⊎_elim (λ none. both_ways (is_mark byte) (not-true (is_mark byte) none) mark) (λ more. false≢true more) (or_cases (not (is_mark byte)) false unmarked)
 
 -- the same bytes as two tokens

@@ -1,32 +1,35 @@
 -- No longer bytes at the front of a text have the form of a token.
 use Rattle.std.proofs.Common.{◌≡◌, ℕ, zero, suc, ◌+◌, ◌<◌, ◌≤◌, ◌&&◌, ◌==◌, nat_lt, nat_le, ◌^◌, ◌⊎◌, inl, inr, ⊎_elim, Bool, true, false, not, cond, List, [], ◌∷◌, ◌++◌, take, drop, length, get_or, Option, Some, None, refl, ap, sym, ◌∙◌, subst, arith, length-take, option_map, unwrap_or}
 use Rattle.std.specs.Option.{option_or}
-use Rattle.std.specs.List.{prefix_len, list_all}
+use Rattle.std.specs.List.{prefix_len, list_all, find}
 use Rattle.std.proofs.lemmas.Bool.{cond_both, cond-true, and_parts, and_from, or_left, false≢true, both_ways, ltb-false, leb-true, not-true, eqb-true, false_from_ne_true}
 use Rattle.std.proofs.lemmas.Bool.Decides.{nat_tests}
 use Rattle.std.proofs.lemmas.Slice.Eq.{bytes_eq-Decides}
 use Rattle.std.proofs.lemmas.List.{length-take-le}
 use Rattle.std.proofs.lemmas.List.Folds.{length-prefix_len}
-use Rattle.rely_num.specs.Texts.{Bytes, is_digit, is_letter, is_name_byte, is_word, is_among, same_text, reserved}
+use Rattle.rely_num.specs.Ops.{ops, op_text, op_of}
+use Rattle.rely_num.specs.Texts.{Bytes, is_digit, is_letter, is_name_byte, is_word, is_among, same_text, reserved, words, word_text, word_of}
 use Rattle.rely_num.specs.AttoTexts.{number_of}
 use Rattle.rely_num.specs.declared.op.Op.{Op}
 use Rattle.rely_lexer.specs.declared.token.TokenKind.{TokenKind}
 use Rattle.rely_lexer.specs.declared.token.TokenKind.TheVariants as kind
 use Rattle.rely_lexer.specs.declared.piece.Piece.{Piece}
 use Rattle.rely_lexer.specs.declared.piece.Piece.TheVariants.{Gap, Lexeme, Wide, Bad}
-use Rattle.rely_lexer.specs.Forms.{lookup, words, operators, word_of, operator_of, alone, sign_kind}
+use Rattle.rely_lexer.specs.Forms.{alone, sign_kind}
 use Rattle.rely_lexer.specs.Tokens.{is_blank, is_in_line, begins_comment, piece_of, token_piece, gap_length, name_piece, number_piece, fraction_length, whole_piece, sign_piece}
 use Rattle.rely_lexer.specs.Readings.{HasForm, AreDigits}
 use Rattle.rely_lexer.proofs.Pieces.{prefix_len-some}
 
--- what all keys of a table pass, a text passes that the table has
-pub lookup-keys : {A : Type 0} (pred : Bytes → Bool) (text : Bytes) (rows : List (Bytes × A)) (value : A) → lookup text rows ≡ Some value → list_all (λ row. pred row.0) rows ≡ true → pred text ≡ true
-lookup-keys pred text [] value is all = absurd (cc)
-lookup-keys {A} pred text ((key, first) ∷ rows) value is all =
-    found (same_text text key) refl is (λ rest. lookup-keys pred text rows value rest (and_parts (pred key) (list_all (λ row. pred row.0) rows) all).1)
+-- what all texts of a table pass, a text passes that is found there
+pub found-passes : {A : Type 0} (pred : Bytes → Bool) (text_of : A → Bytes) (all : List A) (text : Bytes) (value : A)
+    → find (λ x. same_text (text_of x) text) all ≡ Some value → list_all (λ x. pred (text_of x)) all ≡ true → pred text ≡ true
+found-passes pred text_of [] text value is passes = absurd (cc)
+found-passes {A} pred text_of (x ∷ all) text value is passes =
+    found (same_text (text_of x) text) refl is (λ rest. found-passes pred text_of all text value rest (and_parts (pred (text_of x)) (list_all (λ x. pred (text_of x)) all) passes).1)
   where
-    found : (b : Bool) → same_text text key ≡ b → cond b (Some first) (lookup text rows) ≡ Some value → (lookup text rows ≡ Some value → pred text ≡ true) → pred text ≡ true
-    found true same has later = ap pred ((bytes_eq-Decides text key).0 same) ∙ (and_parts (pred key) (list_all (λ row. pred row.0) rows) all).0
+    found : (b : Bool) → same_text (text_of x) text ≡ b → cond b (Some x) (find (λ x. same_text (text_of x) text) all) ≡ Some value
+        → (find (λ x. same_text (text_of x) text) all ≡ Some value → pred text ≡ true) → pred text ≡ true
+    found true same has later = ap pred (sym ((bytes_eq-Decides (text_of x) text).0 same)) ∙ (and_parts (pred (text_of x)) (list_all (λ x. pred (text_of x)) all) passes).0
     found false differs has later = later has
 
 -- what passes throughout is no longer than the front that passes
@@ -74,10 +77,10 @@ is_short_sign : Bytes → Bool
 is_short_sign text = not (is_letter (get_or text 0 0)) && (not (is_digit (get_or text 0 0)) && nat_le (length text) 2)
 
 -- what an operator begins with, and how long it is
-operator-sign : (text : Bytes) (o : Op) → operator_of text ≡ Some o → (is_letter (get_or text 0 0) ≡ false) × (is_digit (get_or text 0 0) ≡ false) × (length text ≤ 2)
-unfolding operator_of is_short_sign
+operator-sign : (text : Bytes) (o : Op) → op_of text ≡ Some o → (is_letter (get_or text 0 0) ≡ false) × (is_digit (get_or text 0 0) ≡ false) × (length text ≤ 2)
+unfolding op_of is_short_sign
 operator-sign text o is =
-    let all = lookup-keys is_short_sign text operators o is refl in
+    let all = found-passes is_short_sign op_text ops text o is refl in
     let first = and_parts (not (is_letter (get_or text 0 0))) (not (is_digit (get_or text 0 0)) && nat_le (length text) 2) all in
     let second = and_parts (not (is_digit (get_or text 0 0))) (nat_le (length text) 2) first.1 in
     (not-true (is_letter (get_or text 0 0)) first.0, not-true (is_digit (get_or text 0 0)) second.0, leb-true (length text) 2 second.1)
@@ -95,7 +98,7 @@ FirstOf (kind.Oper o) text = (is_letter (get_or text 0 0) ≡ false) × (is_digi
 pub first-of : (k : TokenKind) (text : Bytes) → HasForm k text → FirstOf k text
 unfolding word_of
 first-of kind.Name text form = (and_parts (is_word text) (not (is_among text reserved)) form).0
-first-of (kind.Word w) text form = lookup-keys is_word text words w form refl
+first-of (kind.Word w) text form = found-passes is_word word_text words text w form refl
 first-of (kind.Number n) text form = digits-first text form.0
 first-of kind.Decimal text form = decimal-first text form.0 form.1 form.2 form.3
 first-of (kind.Mark byte) text form = ap (length {A = ℕ}) form.0
@@ -213,7 +216,7 @@ symbol text n kind.Decimal letter digit few form =
     absurd (both_ways (is_digit (get_or text 0 0)) digit (ap is_digit (sym (first-same text n)) ∙ first-of kind.Decimal (take (suc n) text) form))
 symbol text n (kind.Mark byte) letter digit few form = inl (omega (arith, first-of (kind.Mark byte) (take (suc n) text) form, length-take-le (suc n) text few))
 symbol text zero (kind.Oper o) letter digit few form = inl (omega arith)
-symbol text (suc zero) (kind.Oper o) letter digit few form = inr (refl, λ none. let e : operator_of (take 2 text) ≡ Some o = form in absurd (lacks (operator_of (take 2 text)) e none))
+symbol text (suc zero) (kind.Oper o) letter digit few form = inr (refl, λ none. let e : op_of (take 2 text) ≡ Some o = form in absurd (lacks (op_of (take 2 text)) e none))
   where
     lacks : (found : Option Op) → found ≡ Some o → option_or (option_map kind.Oper found) (alone (take 2 text)) ≡ None → ⊥
     lacks None has none = cc

@@ -12,7 +12,7 @@ use Rattle.rely_lexer.specs.declared.token.TokenKind.{TokenKind}
 use Rattle.rely_lexer.specs.declared.token.TokenKind.TheVariants.{Number, Oper}
 use Rattle.rely_lexer.specs.declared.token.LexFault.{LexFault}
 use Rattle.rely_lexer.specs.declared.token.LexFault.TheVariants.{TooLong, BadByte, NumberWide, Memory}
-use Rattle.rely_lexer.specs.Forms.{operator_of}
+use Rattle.rely_num.specs.Ops.{op_of}
 use Rattle.rely_lexer.specs.Tokens.{is_blank, begins_comment, token_at, tokens_behind, tokens_of}
 use Rattle.rely_lexer.specs.Readings.{HasForm, AreDigits, IsLongest, is_gap, AreTokensFrom, AreTokensUpTo, IsReading, OneList, OneRefusal, OneReading}
 use Rattle.rely_lexer.proofs.LongestLaws.{digits-first, first-same}
@@ -144,11 +144,11 @@ one-list text place tokens others a b = (one-run text place tokens others None N
 
 -- one slash is an operator
 slash-form : (rest : Bytes) → begins_comment rest ≡ true → HasForm (Oper Div) (take 1 rest)
-unfolding operator_of
+unfolding op_of
 slash-form [] comment = absurd (false≢true comment)
 slash-form (byte ∷ bytes) comment =
     let e = eqb-true byte 47 (and_parts (byte == 47) (get_or bytes 0 0 == 47) comment).0 in
-    subst (λ (b : ℕ). operator_of (b ∷ []) ≡ Some Div) (sym e) refl
+    subst (λ (b : ℕ). op_of (b ∷ []) ≡ Some Div) (sym e) refl
 
 -- one digit is a number
 digit-form : (rest : Bytes) → is_digit (get_or rest 0 0) ≡ true → HasForm (Number (number_of (take 1 rest))) (take 1 rest)

@@ -15,7 +15,8 @@ use Rattle.rely_lexer.specs.declared.token.LexFault.{LexFault}
 use Rattle.rely_lexer.specs.declared.token.LexFault.TheVariants.{TooLong, NumberWide, BadByte, Memory}
 use Rattle.rely_lexer.specs.declared.piece.Piece.{Piece}
 use Rattle.rely_lexer.specs.declared.piece.Piece.TheVariants.{Gap, Lexeme, Wide, Bad}
-use Rattle.rely_lexer.specs.Forms.{operator_of, is_mark, mark_kind, alone, sign_kind}
+use Rattle.rely_lexer.specs.Forms.{is_mark, mark_kind, alone, sign_kind}
+use Rattle.rely_num.specs.Ops.{op_of}
 use Rattle.rely_lexer.specs.Tokens.{IsWithin, is_blank, is_in_line, begins_comment, piece_of, token_piece, gap_length, name_piece, number_piece, fraction_length, whole_piece, sign_piece, token_at, token_then, tokens_behind, tokens_of}
 use Rattle.rely_lexer.specs.Readings.{HasForm, AreDigits, IsLongest, IsCause, IsReading}
 use Rattle.rely_lexer.proofs.Pieces.{prefix_len-some, piece_of-within}
@@ -55,8 +56,8 @@ single text (kind.Word w) letter digit form none =
 single text (kind.Number v) letter digit form none = both_ways (is_digit (get_or text 0 0)) digit (ap is_digit (sym (first-same text 0)) ∙ first-of (kind.Number v) (take 1 text) form)
 single text kind.Decimal letter digit form none = both_ways (is_digit (get_or text 0 0)) digit (ap is_digit (sym (first-same text 0)) ∙ first-of kind.Decimal (take 1 text) form)
 single text (kind.Mark byte) letter digit form none =
-    mark-lacks byte (is_mark byte) (operator_of (byte ∷ [])) form.1 (subst (λ (s : Bytes). option_or (option_map kind.Oper (operator_of s)) (alone s) ≡ None) form.0 none)
-single text (kind.Oper o) letter digit form none = operator-lacks (take 1 text) o (operator_of (take 1 text)) form none
+    mark-lacks byte (is_mark byte) (op_of (byte ∷ [])) form.1 (subst (λ (s : Bytes). option_or (option_map kind.Oper (op_of s)) (alone s) ≡ None) form.0 none)
+single text (kind.Oper o) letter digit form none = operator-lacks (take 1 text) o (op_of (take 1 text)) form none
 
 -- a sign is refused where neither the first two bytes nor the first one is one
 sign-cause : (text : Bytes) (two one : Option TokenKind) → sign_kind (take 2 text) ≡ two → sign_kind (take 1 text) ≡ one → is_letter (get_or text 0 0) ≡ false → is_digit (get_or text 0 0) ≡ false →

@@ -1,14 +1,15 @@
 -- What the tokens of a text are, apart from how they are found: slices of the text in order, with gaps between them.
 use Rattle.std.specs.Prelude.{◌≡◌, ℕ, ◌^◌, ◌<◌, ◌≤◌, Bool, true, false, not, ◌&&◌, ◌||◌, ◌==◌, List, [], ◌∷◌, ◌++◌, length, drop, Some, Result, Ok, Err, ◌↔◌, IsTrue, slice_index, if◌then◌else◌}
 use Rattle.std.specs.List.{list_all, slice_range}
-use Rattle.rely_num.specs.Texts.{Bytes, is_digit, is_name}
+use Rattle.rely_num.specs.Ops.{op_of}
+use Rattle.rely_num.specs.Texts.{Bytes, is_digit, is_name, word_of}
 use Rattle.rely_num.specs.AttoTexts.{number_of}
 use Rattle.rely_lexer.specs.declared.token.Token.{Token}
 use Rattle.rely_lexer.specs.declared.token.TokenKind.{TokenKind}
 use Rattle.rely_lexer.specs.declared.token.TokenKind.TheVariants as kind
 use Rattle.rely_lexer.specs.declared.token.LexFault.{LexFault}
 use Rattle.rely_lexer.specs.declared.token.LexFault.TheVariants as fault
-use Rattle.rely_lexer.specs.Forms.{word_of, operator_of, is_mark}
+use Rattle.rely_lexer.specs.Forms.{is_mark}
 use Rattle.rely_lexer.specs.Tokens.{is_blank, begins_comment, tokens_of}
 
 -- one digit or more
@@ -22,7 +23,7 @@ HasForm (kind.Word w) text = word_of text ≡ Some w
 HasForm (kind.Number n) text = AreDigits text × (number_of text ≡ n) × (n < 2 ^ 63)
 HasForm kind.Decimal text = (whole : Bytes) × (fraction : Bytes) × (text ≡ whole ++ 46 ∷ fraction) × AreDigits whole × AreDigits fraction
 HasForm (kind.Mark byte) text = (text ≡ byte ∷ []) × IsTrue (is_mark byte)
-HasForm (kind.Oper o) text = operator_of text ≡ Some o
+HasForm (kind.Oper o) text = op_of text ≡ Some o
 
 -- blanks and comments, where the text begins inside a comment or not; a comment ends before a newline, or where the whole text ends
 abbrev pub is_gap : Bool → Bool → Bytes → Bool

@@ -5,9 +5,10 @@ ghost use Rattle.rely_num.specs.Texts.{is_digit, is_name_byte};
 ghost use Rattle.rely_num.specs.AttoTexts.{number_of};
 ghost use Rattle.rely_lexer.specs.Tokens.{is_in_line, gap_length, name_piece, fraction_length, whole_piece, number_piece, signed, sign_piece, token_piece, piece_of, IsWithin};
 
-use crate::forms::{is_blank, is_digit, is_in_line, is_letter, is_name_byte, name_kind, sign_kind};
+use crate::forms::{is_blank, is_in_line, name_kind, sign_kind};
 use crate::piece::Piece;
 use crate::token::TokenKind;
+use rely_num::{is_digit, is_letter, is_name_byte};
 
 /// The byte at a place, and 0 behind the end.
 fn byte_at(text: &[u8], at: usize) -> u8

@@ -10,4 +10,5 @@ mod token;
 
 pub use law::{one_list, one_reading, one_refusal};
 pub use lex::tokens;
-pub use token::{LexFault, Token, TokenKind, Word};
+pub use rely_num::Word;
+pub use token::{LexFault, Token, TokenKind};

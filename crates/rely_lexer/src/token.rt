@@ -1,25 +1,6 @@
-use rely_num::{Op, Span};
+use rely_num::{Op, Span, Word};
 use std::alloc::AllocFailed;
 use thiserror::Error;
-
-/// A word that the language keeps for itself.
-#[derive(Clone, Copy, Debug, PartialEq, Eq)]
-pub enum Word {
-    Fn,
-    Claim,
-    Result,
-    R,
-    Var,
-    In,
-    If,
-    Else,
-    While,
-    Max,
-    Repeat,
-    Return,
-    Call,
-    Within,
-}
 
 /// What a token is.
 #[derive(Clone, Copy, Debug, PartialEq, Eq)]

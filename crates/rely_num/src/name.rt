@@ -2,6 +2,8 @@ ghost use Rattle.std.specs.Prelude.{◌≡◌};
 ghost use Rattle.std.specs.List.{list_all};
 ghost use Rattle.rely_num.specs.Texts.{is_digit, is_letter, is_name_byte, is_word, is_among, reserved, is_name};
 
+use crate::word::Word;
+
 /// A decimal digit.
 pub fn is_digit(byte: u8) -> bool
     ensures { result ≡ is_digit byte }
@@ -39,16 +41,12 @@ fn is_word(text: &[u8]) -> bool
     }
 }
 
-const RESERVED: [&[u8]; 14] = [
-    b"fn", b"claim", b"result", b"R", b"var", b"in", b"if", b"else", b"while", b"max", b"repeat",
-    b"return", b"call", b"within",
-];
-
 /// A word that the language keeps for itself.
+#[tactic(auto, using(crate::proofs::Searches::word_among))]
 pub fn is_reserved(text: &[u8]) -> bool
     ensures { result ≡ is_among text.now reserved }
 {
-    RESERVED.iter().any(|word| text == *word)
+    Word::of_text(text).is_some()
 }
 
 /// Whether a whole text is a name that a source may use.

@@ -10,7 +10,7 @@ use Rattle.rely_num.specs.declared.span.Span.{Span}
 use Rattle.rely_lexer.specs.declared.token.Token.{Token}
 use Rattle.rely_lexer.specs.declared.token.TokenKind.{TokenKind}
 use Rattle.rely_lexer.specs.declared.token.TokenKind.TheVariants as kind
-use Rattle.rely_lexer.specs.declared.token.Word.TheVariants as word
+use Rattle.rely_num.specs.declared.word.Word.TheVariants as word
 use Rattle.rely_tree.specs.Tree.{FreeTree, IdentTree, also, ended, DeclTree, SaidTree, FuncTree, UnitTree}
 use Rattle.rely_parser.specs.declared.fault.ParseFault.TheVariants as fault
 use Rattle.rely_parser.specs.Counts.{Head, Body, Standing, Counts, nothing, IsCrowded, IsDeep, AllWithin, behind_mark, behind_word, behind_token, with_token, with_tokens}

@@ -5,7 +5,7 @@ use Rattle.rely_num.specs.declared.op.Op.{Op}
 use Rattle.rely_lexer.specs.declared.token.Token.{Token}
 use Rattle.rely_lexer.specs.declared.token.TokenKind.{TokenKind}
 use Rattle.rely_lexer.specs.declared.token.TokenKind.TheVariants as kind
-use Rattle.rely_lexer.specs.declared.token.Word.{Word}
+use Rattle.rely_num.specs.declared.word.Word.{Word}
 use Rattle.rely_parser.specs.Counts.{Head, Claims, Body, Standing, Counts, is_body, behind_mark, behind_word, behind_token, with_token}
 use Rattle.rely_parser.specs.State.{State, Reading, Read, behind, ◌>>=◌, marked, skip_at, worded, skip_word_at, named, name_at}
 use Rattle.rely_parser.specs.Units.{with_sign, skip_sign_at}

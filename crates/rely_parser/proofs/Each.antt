@@ -2,8 +2,8 @@
 use Rattle.std.proofs.Common.{◌≡◌, ℕ, zero, suc, ◌+◌, ◌-◌, ◌<◌, List, [], ◌∷◌, ◌++◌, length, Ok, Err, refl, ap, arith}
 use Rattle.rely_num.specs.Texts.{Bytes}
 use Rattle.rely_lexer.specs.declared.token.Token.{Token}
-use Rattle.rely_lexer.specs.declared.token.Word.{Word}
-use Rattle.rely_lexer.specs.declared.token.Word.TheVariants as word
+use Rattle.rely_num.specs.declared.word.Word.{Word}
+use Rattle.rely_num.specs.declared.word.Word.TheVariants as word
 use Rattle.rely_tree.specs.declared.stmt.Stmt.{Stmt}
 use Rattle.rely_tree.specs.Tree.{StmtTree, ended, also}
 use Rattle.rely_tree.specs.Shape.{stmt_shape, block_shape}

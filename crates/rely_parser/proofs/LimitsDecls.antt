@@ -10,7 +10,7 @@ use Rattle.rely_num.specs.declared.atto.NumFault.{NumFault}
 use Rattle.rely_num.specs.declared.atto.NumFault.TheVariants as num
 use Rattle.rely_num.specs.declared.op.Op.TheVariants as op
 use Rattle.rely_num.specs.declared.span.Span.{Span}
-use Rattle.rely_lexer.specs.declared.token.Word.TheVariants as word
+use Rattle.rely_num.specs.declared.word.Word.TheVariants as word
 use Rattle.rely_tree.specs.Tree.{DeclTree, SaidTree}
 use Rattle.rely_parser.specs.State.{State, skip_at, number_at, name_at, word_at, first_at, skip_word_at}
 use Rattle.rely_parser.specs.Statements.{list_of}

@@ -1,7 +1,7 @@
 -- What the readers of lists cost.
 use Rattle.std.proofs.Common.{◌≡◌, ℕ, zero, suc, ◌+◌, ◌≤◌, List, [], ◌∷◌, ◌++◌, length, refl, arith}
 use Rattle.std.specs.List.{AllByRecursion}
-use Rattle.rely_lexer.specs.declared.token.Word.{Word}
+use Rattle.rely_num.specs.declared.word.Word.{Word}
 use Rattle.rely_parser.specs.State.{State, Read, skip_at, skip_word_at}
 use Rattle.rely_parser.specs.Statements.{more_of, list_of}
 use Rattle.rely_parser.specs.Units.{each_behind, some_behind}

@@ -7,8 +7,8 @@ use Rattle.rely_num.specs.declared.span.Span.{Span}
 use Rattle.rely_lexer.specs.declared.token.Token.{Token}
 use Rattle.rely_lexer.specs.declared.token.TokenKind.{TokenKind}
 use Rattle.rely_lexer.specs.declared.token.TokenKind.TheVariants as kind
-use Rattle.rely_lexer.specs.declared.token.Word.{Word}
-use Rattle.rely_lexer.specs.declared.token.Word.TheVariants as word
+use Rattle.rely_num.specs.declared.word.Word.{Word}
+use Rattle.rely_num.specs.declared.word.Word.TheVariants as word
 use Rattle.rely_parser.specs.State.{State, first_from, first_at, marked, skip_at, named, name_at, suffix_at, signed, operator_at, one_operator, worded, skip_word_at, numbered, number_at, count_at}
 use Rattle.rely_parser.specs.Grammar.{kind_at}
 use Rattle.rely_parser.specs.Statements.{one_call}

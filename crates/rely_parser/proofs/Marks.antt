@@ -8,8 +8,8 @@ use Rattle.rely_num.specs.declared.span.Span.{Span}
 use Rattle.rely_lexer.specs.declared.token.Token.{Token}
 use Rattle.rely_lexer.specs.declared.token.TokenKind.{TokenKind}
 use Rattle.rely_lexer.specs.declared.token.TokenKind.TheVariants as kind
-use Rattle.rely_lexer.specs.declared.token.Word.{Word}
-use Rattle.rely_lexer.specs.declared.token.Word.TheVariants as word
+use Rattle.rely_num.specs.declared.word.Word.{Word}
+use Rattle.rely_num.specs.declared.word.Word.TheVariants as word
 use Rattle.rely_tree.specs.Tree.{IdentTree}
 use Rattle.rely_parser.specs.declared.fault.ParseFault.TheVariants as fault
 use Rattle.rely_parser.specs.State.{State, Reading, behind, place, ◌>>=◌, marked, skip_at, word_number, worded, skip_word_at, named, name_at, word_at}

@@ -7,7 +7,7 @@ use Rattle.rely_num.specs.declared.span.Span.{Span}
 use Rattle.rely_lexer.specs.declared.token.Token.{Token}
 use Rattle.rely_lexer.specs.declared.token.TokenKind.{TokenKind}
 use Rattle.rely_lexer.specs.declared.token.TokenKind.TheVariants as kind
-use Rattle.rely_lexer.specs.declared.token.Word.{Word}
+use Rattle.rely_num.specs.declared.word.Word.{Word}
 use Rattle.rely_parser.specs.declared.fault.ParseFault.TheVariants as fault
 use Rattle.rely_parser.specs.State.{State, Reading, behind, place_from, ◌>>=◌, choose, first_at, marked, skip_at, word_number, worded, skip_word_at, word_at, height, operator_at}
 use Rattle.rely_parser.specs.Units.{sign_number, with_sign, skip_sign_at}

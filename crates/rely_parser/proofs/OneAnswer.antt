@@ -4,7 +4,7 @@ use Rattle.rely_num.specs.Texts.{Bytes}
 use Rattle.rely_lexer.specs.declared.token.Token.{Token}
 use Rattle.rely_lexer.specs.declared.token.TokenKind.{TokenKind}
 use Rattle.rely_lexer.specs.declared.token.TokenKind.TheVariants as kind
-use Rattle.rely_lexer.specs.declared.token.Word.TheVariants as word
+use Rattle.rely_num.specs.declared.word.Word.TheVariants as word
 use Rattle.rely_tree.specs.Tree.{UnitTree}
 use Rattle.rely_parser.specs.declared.fault.ParseFault.{ParseFault}
 use Rattle.rely_parser.specs.declared.fault.ParseFault.TheVariants as fault

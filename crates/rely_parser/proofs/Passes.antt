@@ -5,7 +5,7 @@ use Rattle.rely_num.specs.Texts.{Bytes}
 use Rattle.rely_num.specs.declared.span.Span.{Span}
 use Rattle.rely_lexer.specs.declared.token.Token.{Token}
 use Rattle.rely_lexer.specs.declared.token.TokenKind.TheVariants as kind
-use Rattle.rely_lexer.specs.declared.token.Word.TheVariants as word
+use Rattle.rely_num.specs.declared.word.Word.TheVariants as word
 use Rattle.rely_tree.specs.Tree.{IdentTree, KindTree, ExprTree, StmtTree, CallTree, Block}
 use Rattle.rely_parser.specs.declared.fault.ParseFault.TheVariants as fault
 use Rattle.rely_parser.specs.State.{State, Read, place, ◌>>=◌, first_at, skip_at, named, name_at, ident_at, suffix_at, numbered, count_at}

@@ -9,8 +9,8 @@ use Rattle.rely_num.specs.declared.span.Span.{Span}
 use Rattle.rely_lexer.specs.declared.token.Token.{Token}
 use Rattle.rely_lexer.specs.declared.token.TokenKind.{TokenKind}
 use Rattle.rely_lexer.specs.declared.token.TokenKind.TheVariants as kind
-use Rattle.rely_lexer.specs.declared.token.Word.{Word}
-use Rattle.rely_lexer.specs.declared.token.Word.TheVariants as word
+use Rattle.rely_num.specs.declared.word.Word.{Word}
+use Rattle.rely_num.specs.declared.word.Word.TheVariants as word
 use Rattle.rely_tree.specs.Tree.{IdentTree, KindTree, PlainTree, NamedTree, FreeTree, StmtTree, ReturnTree, Block, ended, also, SaidTree}
 use Rattle.rely_parser.specs.declared.fault.ParseFault.TheVariants as fault
 use Rattle.rely_parser.specs.State.{State, Reading, Read, behind, place, ◌>>=◌, first_at, skip_at, worded, skip_word_at, numbered, name_at, word_at}

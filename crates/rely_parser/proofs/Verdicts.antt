@@ -4,7 +4,7 @@ use Rattle.rely_num.specs.Texts.{Bytes}
 use Rattle.rely_num.specs.declared.span.Span.{Span}
 use Rattle.rely_lexer.specs.Readings.{AreTokensFrom}
 use Rattle.rely_lexer.specs.declared.token.Token.{Token}
-use Rattle.rely_lexer.specs.declared.token.Word.TheVariants as word
+use Rattle.rely_num.specs.declared.word.Word.TheVariants as word
 use Rattle.rely_tree.specs.declared.unit.Unit as declared
 use Rattle.rely_tree.specs.Shape.{unit_shape}
 use Rattle.rely_tree.specs.Tree.{FuncTree, UnitTree}

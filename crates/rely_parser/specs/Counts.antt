@@ -3,8 +3,8 @@ use Rattle.std.specs.Prelude.{ℕ, zero, suc, ◌≤◌, ◌<◌, ◌==◌, ◌|
 use Rattle.rely_lexer.specs.declared.token.Token.{Token}
 use Rattle.rely_lexer.specs.declared.token.TokenKind.{TokenKind}
 use Rattle.rely_lexer.specs.declared.token.TokenKind.TheVariants as kind
-use Rattle.rely_lexer.specs.declared.token.Word.{Word}
-use Rattle.rely_lexer.specs.declared.token.Word.TheVariants as word
+use Rattle.rely_num.specs.declared.word.Word.{Word}
+use Rattle.rely_num.specs.declared.word.Word.TheVariants as word
 
 -- ---- where a place stands
 

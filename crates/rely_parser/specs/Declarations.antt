@@ -4,7 +4,7 @@ use Rattle.rely_num.specs.Texts.{Bytes}
 use Rattle.rely_num.specs.declared.span.Span.{Span}
 use Rattle.rely_lexer.specs.declared.token.TokenKind.{TokenKind}
 use Rattle.rely_lexer.specs.declared.token.TokenKind.TheVariants as kind
-use Rattle.rely_lexer.specs.declared.token.Word.TheVariants as word
+use Rattle.rely_num.specs.declared.word.Word.TheVariants as word
 use Rattle.rely_tree.specs.Tree.{KindTree, PlainTree, NamedTree, FreeTree, DeclTree}
 use Rattle.rely_parser.specs.State.{State, Reading, Read, ◌>>=◌, choose, place, first_at, skip_at, skip_word_at, number_at, ident_at, name_at}
 use Rattle.rely_parser.specs.declared.fault.ParseFault.TheVariants as fault

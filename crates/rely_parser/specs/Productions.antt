@@ -8,8 +8,8 @@ use Rattle.rely_num.specs.declared.span.Span.{Span}
 use Rattle.rely_lexer.specs.Readings.{AreTokensFrom}
 use Rattle.rely_lexer.specs.declared.token.Token.{Token}
 use Rattle.rely_lexer.specs.declared.token.TokenKind.TheVariants as kind
-use Rattle.rely_lexer.specs.declared.token.Word.{Word}
-use Rattle.rely_lexer.specs.declared.token.Word.TheVariants as word
+use Rattle.rely_num.specs.declared.word.Word.{Word}
+use Rattle.rely_num.specs.declared.word.Word.TheVariants as word
 use Rattle.rely_tree.specs.Tree.{IdentTree, KindTree, PlainTree, NamedTree, FreeTree, ExprTree, NumTree, NameTree, ElemTree, BinTree, StmtTree, SetTree, SetElemTree, IfTree, WhileTree, RepeatTree, CallTree, ReturnTree, Block, ended, also, DeclTree, SaidTree, FuncTree, UnitTree}
 use Rattle.rely_parser.specs.declared.fault.ParseFault.{ParseFault}
 use Rattle.rely_parser.specs.declared.fault.ParseFault.TheVariants as fault

@@ -4,8 +4,8 @@ use Rattle.rely_num.specs.Texts.{Bytes}
 use Rattle.rely_num.specs.declared.span.Span.{Span}
 use Rattle.rely_lexer.specs.declared.token.TokenKind.{TokenKind}
 use Rattle.rely_lexer.specs.declared.token.TokenKind.TheVariants as kind
-use Rattle.rely_lexer.specs.declared.token.Word.{Word}
-use Rattle.rely_lexer.specs.declared.token.Word.TheVariants as word
+use Rattle.rely_num.specs.declared.word.Word.{Word}
+use Rattle.rely_num.specs.declared.word.Word.TheVariants as word
 use Rattle.rely_tree.specs.Tree.{IdentTree, ExprTree, StmtTree, SetTree, SetElemTree, IfTree, WhileTree, RepeatTree, CallTree, Block, ended, also}
 use Rattle.rely_parser.specs.State.{State, Reading, Read, ◌>>=◌, choose, place, first_at, skip_at, ident_at, name_at, skip_word_at, count_at}
 use Rattle.rely_parser.specs.declared.fault.ParseFault.TheVariants as fault

@@ -9,8 +9,8 @@ use Rattle.rely_num.specs.declared.span.Span.{Span}
 use Rattle.rely_lexer.specs.declared.token.Token.{Token}
 use Rattle.rely_lexer.specs.declared.token.TokenKind.{TokenKind}
 use Rattle.rely_lexer.specs.declared.token.TokenKind.TheVariants as kind
-use Rattle.rely_lexer.specs.declared.token.Word.{Word}
-use Rattle.rely_lexer.specs.declared.token.Word.TheVariants as word
+use Rattle.rely_num.specs.declared.word.Word.{Word}
+use Rattle.rely_num.specs.declared.word.Word.TheVariants as word
 use Rattle.rely_tree.specs.Tree.{IdentTree, StmtTree, ReturnTree, Block, ended, also, DeclTree, SaidTree, FuncTree, UnitTree}
 use Rattle.rely_parser.specs.State.{State, Reading, Read, end_of, ◌>>=◌, choose, place, first_at, skip_at, skip_word_at, word_at, name_at}
 use Rattle.rely_parser.specs.declared.fault.ParseFault.TheVariants as fault

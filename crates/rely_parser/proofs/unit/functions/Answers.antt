@@ -1,6 +1,6 @@
 use Rattle.std.proofs.Common.{Err, [], ◌∷◌, ◌++◌, ◌+◌, ◌-◌, ◌≡◌, false, Ok, arith, ap, sym, ◌∙◌, length}
 use Rattle.std.proofs.lemmas.Grind.{common_steps}
-use Rattle.rely_lexer.specs.declared.token.Word.TheVariants as word
+use Rattle.rely_num.specs.declared.word.Word.TheVariants as word
 use Rattle.rely_tree.specs.Shape.{func_shape}
 use Rattle.rely_parser.specs.declared.fault.ParseFault.TheVariants as fault
 use Rattle.rely_parser.specs.State.{state_of, is_memory}

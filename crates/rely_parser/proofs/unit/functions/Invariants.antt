@@ -1,5 +1,5 @@
 use Rattle.std.proofs.Common.{◌≡◌, ℕ, ◌+◌, ◌<◌, length}
-use Rattle.rely_lexer.specs.declared.token.Word.TheVariants as word
+use Rattle.rely_num.specs.declared.word.Word.TheVariants as word
 use Rattle.rely_tree.specs.Shape.{func_shape}
 use Rattle.rely_parser.specs.State.{state_of}
 use Rattle.rely_parser.specs.Units.{each_behind, function_at, functions_at}
