@@ -4,6 +4,8 @@
 #[cfg(test)]
 mod numbers;
 #[cfg(test)]
+mod optimiser;
+#[cfg(test)]
 mod outside;
 #[cfg(test)]
 mod predicates;
