@@ -3,7 +3,7 @@ use crate::token::TokenKind;
 
 /// What stands at the front of a text.
 #[derive(Clone, Copy, Debug, PartialEq, Eq)]
-pub(crate) enum Piece {
+pub enum Piece {
     /// Blanks or a comment, of so many bytes.
     Gap(usize),
     /// A token of so many bytes.

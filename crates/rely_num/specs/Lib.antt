@@ -6,3 +6,4 @@ pub mod Sets
 pub mod formers
 pub mod AttoTexts
 pub mod Texts
+pub mod OpenMarks

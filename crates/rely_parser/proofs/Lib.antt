@@ -15,6 +15,9 @@ pub mod LimitsLists
 pub mod LimitsOn
 pub mod LimitsState
 pub mod LimitsTokens
+pub mod LimitsUnits
+pub mod MarkedExprs
+pub mod MarkedUnits
 pub mod Lists
 pub mod Marks
 pub mod Meets

@@ -1,12 +1,10 @@
 -- The numbers of a text are below 2^63.
-use Rattle.std.proofs.Common.{◌≡◌, ℕ, ◌^◌, ◌<◌, List, [], ◌∷◌, Ok}
+use Rattle.std.proofs.Common.{ℕ, ◌^◌, ◌<◌, List, [], ◌∷◌}
 use Rattle.rely_num.specs.Texts.{Bytes}
 use Rattle.rely_lexer.specs.declared.token.Token.{Token}
 use Rattle.rely_lexer.specs.declared.token.TokenKind.{TokenKind}
 use Rattle.rely_lexer.specs.declared.token.TokenKind.TheVariants as kind
-use Rattle.rely_lexer.specs.Tokens.{tokens_of}
 use Rattle.rely_lexer.specs.Readings.{HasForm, AreTokensFrom}
-use Rattle.rely_lexer.proofs.ReadingLaws.{tokens_of-reads}
 
 -- a number is below 2^63
 abbrev pub IsSmall : TokenKind → Type 0
@@ -26,10 +24,7 @@ form-small kind.Decimal text h = tt
 form-small (kind.Mark m) text h = tt
 form-small (kind.Oper o) text h = tt
 
-from-small : (text : Bytes) (place : ℕ) (toks : List Token) → AreTokensFrom text place toks → AreSmall toks
-from-small text place [] h = tt
-from-small text place (t ∷ ts) (after, full, fits, gap, form, longest, more) = (form-small t.kind _ form, from-small text t.span.to ts more)
-
 -- the numbers of the tokens of a text are
-pub tokens-small : (text : Bytes) (toks : List Token) → tokens_of text ≡ Ok toks → AreSmall toks
-tokens-small text toks h = from-small text 0 toks (tokens_of-reads text toks h)
+pub tokens-small : (text : Bytes) (place : ℕ) (toks : List Token) → AreTokensFrom text place toks → AreSmall toks
+tokens-small text place [] h = tt
+tokens-small text place (t ∷ ts) (after, full, fits, gap, form, longest, more) = (form-small t.kind _ form, tokens-small text t.span.to ts more)

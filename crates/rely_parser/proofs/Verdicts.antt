@@ -6,6 +6,8 @@ use Rattle.rely_lexer.specs.Readings.{AreTokensFrom}
 use Rattle.rely_lexer.specs.declared.token.Token.{Token}
 use Rattle.rely_num.specs.declared.word.Word.TheVariants as word
 use Rattle.rely_tree.specs.declared.unit.Unit as declared
+use Rattle.rely_tree.specs.Limits.{IsUnit}
+use Rattle.rely_tree.specs.Marks.{IsMarked}
 use Rattle.rely_tree.specs.Shape.{unit_shape}
 use Rattle.rely_tree.specs.Tree.{FuncTree, UnitTree}
 use Rattle.rely_parser.specs.declared.fault.ParseFault.{ParseFault}
@@ -14,6 +16,8 @@ use Rattle.rely_parser.specs.State.{place_from, State, Reading, end_of, ◌>>=�
 use Rattle.rely_parser.specs.Units.{functions_at, whole, unit_of}
 use Rattle.rely_parser.specs.Counts.{Counts, nothing, with_token, with_tokens, IsDeep, IsCrowded, IsWithin, AllWithin, PassesFirst}
 use Rattle.rely_parser.specs.Productions.{Spells, Agree, OneOrMore, Func, Spelled, Begins, Reaches, Refuses, AreOf, NoUnit}
+use Rattle.rely_parser.proofs.LimitsUnits.{parsed_unit}
+use Rattle.rely_parser.proofs.MarkedUnits.{marked_unit}
 use Rattle.rely_parser.proofs.Laws.{Answer, Halted, last_place, assoc}
 use Rattle.rely_parser.proofs.Meets.{Run, Share, at_last, before, Stopped, Goes}
 use Rattle.rely_parser.proofs.Wholly.{meet-functions}
@@ -333,5 +337,15 @@ no-unit-if text toks (Err e) h = no-unit-or text toks e h
 pub within-if : (text : Bytes) (toks : List Token) (r : Result declared.Unit ParseFault) → IfOk r (λ u. unit_of text toks ≡ Ok (unit_shape u)) → IfOk r (λ u. AllWithin nothing toks)
 within-if text toks (Ok u) h = subst (Limited text toks) h (limited text toks)
 within-if text toks (Err e) h = h
+
+pub unit-if : (text : Bytes) (toks : List Token) (r : Result declared.Unit ParseFault) → IfOk r (λ u. unit_of text toks ≡ Ok (unit_shape u)) →
+    IfOk r (λ u. AreTokensFrom text 0 toks → IsUnit (unit_shape u))
+unit-if text toks (Ok u) h = λ lexed. parsed_unit text toks (unit_shape u) lexed h
+unit-if text toks (Err e) h = h
+
+pub marks-if : (text : Bytes) (toks : List Token) (r : Result declared.Unit ParseFault) → IfOk r (λ u. unit_of text toks ≡ Ok (unit_shape u)) →
+    IfOk r (λ u. AreTokensFrom text 0 toks → IsMarked text (unit_shape u))
+marks-if text toks (Ok u) h = λ lexed. marked_unit text toks (unit_shape u) lexed (spelled_of text toks (unit_shape u) h)
+marks-if text toks (Err e) h = h
 
 pub ruleset sources = (spelled-if, only-if, refuses-if, no-unit-if)

@@ -1,5 +1,8 @@
 // Functions, and the whole source.
 ghost use Rattle.std.specs.Prelude.{◌≡◌, ◌<◌, ◌≤◌, ◌+◌, ◌⊎◌, length, map, Ok, Err, IfOk, IfErr, false};
+ghost use Rattle.rely_lexer.specs.Readings.{AreTokensFrom};
+ghost use Rattle.rely_tree.specs.Limits.{IsUnit};
+ghost use Rattle.rely_tree.specs.Marks.{IsMarked};
 ghost use Rattle.rely_tree.specs.Tree.{UnitTree};
 ghost use Rattle.rely_tree.specs.Shape.{stmt_shape, block_shape, func_shape, unit_shape};
 ghost use Rattle.rely_parser.specs.State.{state_of, is_memory, end_of};
@@ -172,6 +175,8 @@ pub fn parse<'a>(
     ensures spells { IfOk result (λ u. Spelled text.now toks.now (unit_shape u)) }
     ensures only { IfOk result (λ u. (v : UnitTree) → Spelled text.now toks.now v → v ≡ unit_shape u) }
     ensures within { IfOk result (λ u. AllWithin nothing toks.now) }
+    ensures unit { IfOk result (λ u. AreTokensFrom text.now 0 toks.now → IsUnit (unit_shape u)) }
+    ensures marks { IfOk result (λ u. AreTokensFrom text.now 0 toks.now → IsMarked text.now (unit_shape u)) }
     ensures err { IfErr result (λ e. (e ≡ ParseFault.Memory) ⊎ (unit_of text.now toks.now ≡ Err e)) }
     ensures refuses { IfErr result (λ e. Refuses text.now toks.now e) }
     ensures no_unit { IfErr result (λ e. (e ≡ ParseFault.Memory) ⊎ NoUnit text.now toks.now) }

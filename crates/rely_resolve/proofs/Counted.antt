@@ -3,7 +3,7 @@ use Rattle.std.proofs.Common.{◌≡◌, ℕ, ◌+◌, List, [], ◌∷◌, ◌+
 use Rattle.std.proofs.lemmas.List.{append-nil, map-append}
 use Rattle.rely_hard.specs.declared.hardware.Hardware.{Hardware}
 use Rattle.rely_tree.specs.Tree.{ExprTree, NumTree, NameTree, ElemTree, BinTree, StmtTree, SetTree, SetElemTree, IfTree, WhileTree, RepeatTree, ReturnTree, CallTree, Block, ended, also}
-use Rattle.rely_resolve.specs.Counts.{expr_operators, exprs_operators, stmt_operators, block_operators, stmt_calls, block_calls}
+use Rattle.rely_tree.specs.Counts.{expr_operators, exprs_operators, stmt_operators, block_operators, stmt_calls, block_calls}
 use Rattle.rely_resolve.specs.Kernels.{Done, site_of, expr_sites, exprs_sites, stmt_sites, block_sites, stmt_sites_called, block_sites_called}
 
 pub expr_sites_len : (h : Hardware) (e : ExprTree) → length (expr_sites h e) ≡ expr_operators e

@@ -2,10 +2,9 @@
 use Rattle.std.proofs.Common.{◌≡◌, ℕ, ◌+◌, ◌<◌, List, [], ◌∷◌, ◌++◌, length, drop, get_or, Option, None, refl, ap, sym, subst, ◌∙◌, add-one, drop-cons}
 use Rattle.std.proofs.lemmas.List.{length-map}
 use Rattle.rely_hard.specs.declared.hardware.Hardware.{Hardware}
-use Rattle.rely_tree.specs.Tree.{DeclTree, FuncTree}
+use Rattle.rely_tree.specs.Tree.{DeclTree, FuncTree, variables}
 use Rattle.rely_resolve.specs.Faults.{sooner, first_with, twice_faults, memories_faults, limit_faults, claims_faults, block_faults}
 use Rattle.rely_resolve.specs.Linked.{fault_of}
-use Rattle.rely_resolve.specs.Names.{variables}
 use Rattle.rely_resolve.specs.declared.fault.NameFault.{NameFault}
 
 pub first_with_append : (first : Option NameFault) (xs ys : List NameFault) → first_with first (xs ++ ys) ≡ first_with (first_with first xs) ys

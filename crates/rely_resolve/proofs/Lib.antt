@@ -2,8 +2,10 @@ pub mod Counted
 pub mod Firsts
 pub mod Least
 pub mod Linking
+pub mod Marked
 pub mod Numbers
 pub mod Places
+pub mod Reached
 pub mod Tables
 pub mod ValidBody
 pub mod ValidCalls

@@ -6,7 +6,7 @@ use Rattle.rely_hard.specs.declared.hardware.Hardware.{Hardware}
 use Rattle.rely_tree.specs.Shape.{func_shape}
 use Rattle.rely_tree.specs.Tree.{FuncTree}
 use Rattle.rely_tree.specs.declared.unit.Func.{Func}
-use Rattle.rely_resolve.specs.Limits.{IsFunction}
+use Rattle.rely_tree.specs.Limits.{IsFunction}
 use Rattle.rely_kernel.specs.declared.kernel.Linked.{Linked}
 use Rattle.rely_resolve.specs.Kernels.{Done}
 use Rattle.rely_resolve.specs.Linked.{fault_of, is_reached, linked_at, linked_from, nothing_done, unless, with_function}

@@ -1,6 +1,6 @@
 -- The numbers of a body.
 use Rattle.rely_tree.specs.Tree.{StmtTree, SetTree, SetElemTree, IfTree, WhileTree, RepeatTree, ReturnTree, CallTree, Block, ended, also}
-use Rattle.rely_resolve.specs.Limits.{IsStmt, AreStmts, IsBody, HasNumbers, HaveNumbers}
+use Rattle.rely_tree.specs.Limits.{IsStmt, AreStmts, IsBody, HasNumbers, HaveNumbers}
 
 -- statements without a return
 mutual

@@ -15,10 +15,10 @@ use Rattle.rely_kernel.specs.Valid as kernel
 use Rattle.rely_kernel.specs.Valid.{is_scalar, ExprFits, AllFit, StmtFits, BlockFits, BodyFits}
 use Rattle.rely_kernel.proofs.TextLemmas.{text-If, text-While, text-Repeat, text-Elem, text-Bin}
 use Rattle.rely_tree.specs.Tree.{IdentTree, ExprTree, NumTree, NameTree, ElemTree, BinTree, StmtTree, SetTree, SetElemTree, IfTree, WhileTree, RepeatTree, ReturnTree, CallTree, Block, ended, also, DeclTree, FuncTree}
-use Rattle.rely_resolve.specs.Counts.{expr_operators, exprs_operators, stmt_operators, block_operators, stmt_calls, block_calls}
+use Rattle.rely_tree.specs.Counts.{expr_operators, exprs_operators, stmt_operators, block_operators, stmt_calls, block_calls}
 use Rattle.rely_resolve.specs.Faults.{when, scalar_faults, array_faults, kind_faults, expr_faults, exprs_faults, callee_faults, stmt_faults, block_faults}
 use Rattle.rely_resolve.specs.Kernels.{ex_of, exs_of, kind_of, sts_of}
-use Rattle.rely_resolve.specs.Limits.{IsExpr, IsStmt, AreStmts, IsBody}
+use Rattle.rely_tree.specs.Limits.{IsExpr, IsStmt, AreStmts, IsBody}
 use Rattle.rely_resolve.specs.Names.{place_of, number_of, names, is_array}
 use Rattle.rely_resolve.specs.declared.fault.NameFault.TheVariants as fault
 use Rattle.rely_resolve.proofs.ValidNames.{both_empty, when_off, place_within}

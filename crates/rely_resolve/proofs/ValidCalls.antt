@@ -19,7 +19,7 @@ use Rattle.rely_kernel.specs.declared.kernel.Claim.{Claim}
 use Rattle.rely_kernel.specs.declared.kernel.Kernel.{Kernel}
 use Rattle.rely_kernel.proofs.TextLemmas.{text-If, text-While, text-Repeat}
 use Rattle.rely_tree.specs.Tree.{IdentTree, ExprTree, StmtTree, SetTree, SetElemTree, IfTree, WhileTree, RepeatTree, ReturnTree, CallTree, Block, ended, also, DeclTree, FuncTree}
-use Rattle.rely_resolve.specs.Counts.{expr_operators, stmt_operators, block_operators, stmt_calls, block_calls}
+use Rattle.rely_tree.specs.Counts.{expr_operators, stmt_operators, block_operators, stmt_calls, block_calls}
 use Rattle.rely_resolve.specs.Faults.{when, called_faults, callee_faults, scalar_faults, expr_faults, exprs_faults, stmt_faults, block_faults}
 use Rattle.rely_resolve.specs.Kernels.{Done, var_of, exs_of, kind_of, sts_of, called, call_site, stmt_sites_called, block_sites_called, kernel_of, ex_of}
 use Rattle.rely_resolve.specs.Linked.{stmt_callees, block_callees}

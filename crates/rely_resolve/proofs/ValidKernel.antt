@@ -10,13 +10,13 @@ use Rattle.rely_kernel.specs.Text.{block_of}
 use Rattle.rely_kernel.specs.Valid as kernel
 use Rattle.rely_kernel.specs.Valid.{IsValid, EachOnce, PlaceFits}
 use Rattle.rely_kernel.specs.declared.kernel.Kernel.{Kernel}
-use Rattle.rely_tree.specs.Tree.{FuncTree}
-use Rattle.rely_resolve.specs.Counts.{block_operators, block_calls}
+use Rattle.rely_tree.specs.Tree.{FuncTree, variables}
+use Rattle.rely_tree.specs.Counts.{block_operators, block_calls}
 use Rattle.rely_resolve.specs.Faults.{twice_faults, memories_faults, limit_faults, claims_faults, block_faults, function_faults}
 use Rattle.rely_resolve.specs.Kernels.{Done, claim_of, block_sites_called, kernel_of}
-use Rattle.rely_resolve.specs.Limits.{IsFunction}
+use Rattle.rely_tree.specs.Limits.{IsFunction}
 use Rattle.rely_resolve.specs.Linked.{block_callees}
-use Rattle.rely_resolve.specs.Names.{variables, names}
+use Rattle.rely_resolve.specs.Names.{names}
 use Rattle.rely_resolve.proofs.ValidNames.{both_empty}
 use Rattle.rely_resolve.proofs.ValidSites.{each_once, block_numbers, block_places}
 use Rattle.rely_resolve.proofs.ValidVars.{params_are, locals_are, vars_long, lengths_fit, numbers_fit, memories_fit}

@@ -19,7 +19,7 @@ use Rattle.rely_kernel.specs.declared.kernel.Linked.{Linked}
 use Rattle.rely_tree.specs.Tree.{FuncTree, UnitTree}
 use Rattle.rely_resolve.specs.Faults.{function_faults}
 use Rattle.rely_resolve.specs.Kernels.{Done, kernel_of}
-use Rattle.rely_resolve.specs.Limits.{IsFunction, IsUnit}
+use Rattle.rely_tree.specs.Limits.{IsFunction, IsUnit}
 use Rattle.rely_resolve.specs.Linked.{block_callees, called_from, is_reached, unless, fault_of, with_function, nothing_done, linked_from, twice_among, linked_at, linked_of}
 use Rattle.rely_resolve.specs.Names.{place_of, function_names}
 use Rattle.rely_resolve.specs.declared.fault.NameFault.{NameFault}
@@ -93,17 +93,17 @@ find_last p (x ∷ xs) y = go (p x) (find_last p xs y)
     go true e = refl
     go false e = e
 
-same_self : (t : Bytes) → same_text t t ≡ true
+pub same_self : (t : Bytes) → same_text t t ≡ true
 same_self t = (bytes_eq-Decides t t).1 refl
 
-among_left : (t : Bytes) (xs ys : List Bytes) → is_among t xs ≡ true → is_among t (xs ++ ys) ≡ true
+pub among_left : (t : Bytes) (xs ys : List Bytes) → is_among t xs ≡ true → is_among t (xs ++ ys) ≡ true
 among_left t [] ys e = absurd (cc)
 among_left t (x ∷ xs) ys e = elim (or_cases (same_text t x) (is_among t xs) e) [
   | inl a ↦ or_left (same_text t x) (is_among t (xs ++ ys)) a
   | inr b ↦ or_right (same_text t x) (is_among t (xs ++ ys)) (among_left t xs ys b)
 ]
 
-among_right : (t : Bytes) (xs ys : List Bytes) → is_among t ys ≡ true → is_among t (xs ++ ys) ≡ true
+pub among_right : (t : Bytes) (xs ys : List Bytes) → is_among t ys ≡ true → is_among t (xs ++ ys) ≡ true
 among_right t [] ys e = e
 among_right t (x ∷ xs) ys e = or_right (same_text t x) (is_among t (xs ++ ys)) (among_right t xs ys e)
 
@@ -202,11 +202,11 @@ take_in h f earlier done g gs hard is none reached st = record {
 -- ---- the whole
 
 -- what stands behind no refusal
-unless_ok : (o : Option NameFault) (r : Result Linked NameFault) (l : Linked) → unless o r ≡ Ok l → (o ≡ None) × (r ≡ Ok l)
+pub unless_ok : (o : Option NameFault) (r : Result Linked NameFault) (l : Linked) → unless o r ≡ Ok l → (o ≡ None) × (r ≡ Ok l)
 unless_ok None r l e = (refl, e)
 unless_ok (Some f) r l e = absurd (cc)
 
-same_Ok : (k l : Linked) → (let r : Result Linked NameFault = Ok k in r) ≡ Ok l → k ≡ l
+pub same_Ok : (k l : Linked) → (let r : Result Linked NameFault = Ok k in r) ≡ Ok l → k ≡ l
 same_Ok k l e = cc
 
 from_good : (h : Hardware) (hard : IsHardware h) (f : FuncTree) (is : IsFunction f) (gs : List FuncTree) (earlier : List FuncTree) (done : Done) (l : Linked) → AllByRecursion IsFunction gs → Standing h f earlier done gs
@@ -228,7 +228,7 @@ from_good h hard f is (g ∷ gs) earlier done l fs st e = go (is_reached f gs g)
         k (with_function h done g) (take_in h f earlier done g gs hard fs.0 none q st) rest
     go false q e k = k done (pass h f earlier done g gs q st) e
 
-each_at : {A : Type 0} (P : A → Type 0) (xs : List A) (i : ℕ) (x : A) → AllByRecursion P xs → slice_get xs i ≡ Some x → P x
+pub each_at : {A : Type 0} (P : A → Type 0) (xs : List A) (i : ℕ) (x : A) → AllByRecursion P xs → slice_get xs i ≡ Some x → P x
 each_at P [] i x p e = absurd (cc)
 each_at P (y ∷ xs) zero x p e = subst P (same_Some y x e) p.0
 each_at P (y ∷ xs) (suc i) x p e = each_at P xs i x p.1 e

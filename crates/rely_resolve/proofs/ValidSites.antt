@@ -12,7 +12,7 @@ use Rattle.rely_kernel.specs.Text.{expr_of, exprs_of, stmt_of, block_of}
 use Rattle.rely_kernel.specs.Valid as kernel
 use Rattle.rely_kernel.specs.Valid.{sites_of, sites_of_all, EachOnce}
 use Rattle.rely_kernel.proofs.TextLemmas.{text-If, text-While, text-Repeat, text-Elem, text-Bin}
-use Rattle.rely_resolve.specs.Counts.{expr_operators, exprs_operators, stmt_operators, block_operators, stmt_calls, block_calls}
+use Rattle.rely_tree.specs.Counts.{expr_operators, exprs_operators, stmt_operators, block_operators, stmt_calls, block_calls}
 use Rattle.rely_resolve.specs.Kernels.{ex_of, exs_of, kind_of, sts_of}
 use Rattle.rely_resolve.specs.Names.{number_of}
 

@@ -9,8 +9,8 @@ use Rattle.rely_num.specs.declared.span.Span.{Span}
 use Rattle.rely_hard.specs.declared.hardware.Hardware.{Hardware}
 use Rattle.rely_hard.specs.declared.hardware.KindSpec.{KindSpec}
 use Rattle.rely_hard.specs.declared.hardware.MemSpec.{MemSpec}
-use Rattle.rely_tree.specs.Tree.{IdentTree, KindTree, PlainTree, NamedTree, FreeTree, ExprTree, NumTree, NameTree, ElemTree, BinTree, StmtTree, SetTree, SetElemTree, IfTree, WhileTree, RepeatTree, ReturnTree, CallTree, Block, ended, also, DeclTree, SaidTree, FuncTree}
-use Rattle.rely_resolve.specs.Names.{place_of, variables, names, memory_names, kind_names, is_array}
+use Rattle.rely_tree.specs.Tree.{IdentTree, KindTree, PlainTree, NamedTree, FreeTree, ExprTree, NumTree, NameTree, ElemTree, BinTree, StmtTree, SetTree, SetElemTree, IfTree, WhileTree, RepeatTree, ReturnTree, CallTree, Block, ended, also, DeclTree, SaidTree, FuncTree, variables}
+use Rattle.rely_resolve.specs.Names.{place_of, names, memory_names, kind_names, is_array}
 use Rattle.rely_resolve.specs.declared.fault.NameFault.{NameFault}
 use Rattle.rely_resolve.specs.declared.fault.NameFault.TheVariants.{Twice, Function, ClaimParam, Unknown, NotArray, NotScalar, NoKind, NoMemory, Limit, NoCallee, Arity, ArrayParam, NoClaim, Memory}
 

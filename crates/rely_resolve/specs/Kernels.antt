@@ -22,9 +22,9 @@ use Rattle.rely_kernel.specs.declared.kernel.StKind.TheVariants as st
 use Rattle.rely_kernel.specs.declared.kernel.Var.{Var}
 use Rattle.rely_kernel.specs.Setting.{kinds_of}
 use Rattle.rely_kernel.specs.Valid.{claim_in_use}
-use Rattle.rely_tree.specs.Tree.{IdentTree, KindTree, PlainTree, NamedTree, FreeTree, ExprTree, NumTree, NameTree, ElemTree, BinTree, StmtTree, SetTree, SetElemTree, IfTree, WhileTree, RepeatTree, ReturnTree, CallTree, Block, ended, also, DeclTree, SaidTree, FuncTree}
-use Rattle.rely_resolve.specs.Counts.{expr_operators, stmt_operators, block_operators, stmt_calls, block_calls}
-use Rattle.rely_resolve.specs.Names.{number_of, names, function_names, memory_names, kind_names, variables}
+use Rattle.rely_tree.specs.Tree.{IdentTree, KindTree, PlainTree, NamedTree, FreeTree, ExprTree, NumTree, NameTree, ElemTree, BinTree, StmtTree, SetTree, SetElemTree, IfTree, WhileTree, RepeatTree, ReturnTree, CallTree, Block, ended, also, DeclTree, SaidTree, FuncTree, variables}
+use Rattle.rely_tree.specs.Counts.{expr_operators, stmt_operators, block_operators, stmt_calls, block_calls}
+use Rattle.rely_resolve.specs.Names.{number_of, names, function_names, memory_names, kind_names}
 
 -- ---- kinds and memories
 

@@ -1,8 +1,8 @@
-pub mod Counts
 pub mod Faults
 pub mod Kernels
 pub mod Laws
-pub mod Limits
 pub mod Linked
+pub mod Marked
 pub mod Names
+pub mod Reached
 pub mod Table

@@ -1,5 +1,5 @@
 -- Names as numbers: places in lists of names.
-use Rattle.std.specs.Prelude.{ℕ, List, ◌++◌, map, Option, position, slice_get, is_some, Bool, false, unwrap_or}
+use Rattle.std.specs.Prelude.{ℕ, List, map, Option, position, slice_get, is_some, Bool, false, unwrap_or}
 use Rattle.std.specs.Option.{option_map_or}
 use Rattle.rely_num.specs.Texts.{Bytes, same_text}
 use Rattle.rely_hard.specs.declared.hardware.KindSpec.{KindSpec}
@@ -13,10 +13,6 @@ place_of name names = position (λ n. same_text n name) names
 -- the same as a number: 0 where the name isn't there
 abbrev pub number_of : Bytes → List Bytes → ℕ
 number_of name names = unwrap_or (place_of name names) 0
-
--- parameters, then locals
-abbrev pub variables : FuncTree → List DeclTree
-variables f = f.params ++ f.locals
 
 -- the names of variables, of functions, of memories, of kinds
 abbrev pub names : List DeclTree → List Bytes

@@ -2,18 +2,16 @@
 ghost use Rattle.std.specs.Prelude.{◌≡◌, ◌≤◌, ◌+◌, ◌++◌, map, length, IfOk, OnOk};
 ghost use Rattle.rely_hard.specs.Valid.{IsHardware};
 ghost use Rattle.rely_tree.specs.Shape.{kind_shape, expr_shape, decl_shape};
-ghost use Rattle.rely_resolve.specs.Counts.{expr_operators, exprs_operators};
+ghost use Rattle.rely_tree.specs.Counts.{expr_operators, exprs_operators};
 ghost use Rattle.rely_resolve.specs.Kernels.{ex_of, exs_of, expr_sites, exprs_sites, mark_of, site_of, slot_of};
-ghost use Rattle.rely_resolve.specs.Limits.{IsExpr};
+ghost use Rattle.rely_tree.specs.Limits.{IsExpr};
 ghost use Rattle.std.specs.List.{AllByRecursion};
-ghost use Rattle.rely_kernel.specs.Setting.{kinds_of};
 ghost use Rattle.rely_resolve.specs.Names.{names, number_of, kind_names};
 
 use crate::names::place_of_kind;
-use crate::texts::listed;
 use crate::variables::Variables;
 use rely_hard::{Hardware, KindSpec};
-use rely_kernel::{Ex, Site, Slot};
+use rely_kernel::{Ex, Site, Slot, kinds_of};
 use rely_num::{List, Op, Span};
 use rely_tree::{Expr, Kind};
 use sqlite_items::Boxed;
@@ -51,18 +49,6 @@ fn slot_of_kind(kinds: &[KindSpec], kind: Kind) -> Slot
         Kind::Plain => Slot::Named(number_of_kind(b"exact", kinds)),
         Kind::Named(i) => Slot::Named(number_of_kind(i.text, kinds)),
         Kind::Free(_) => Slot::Free,
-    }
-}
-
-/// The kinds of an operator, none where it isn't listed.
-fn kinds_of(h: &Hardware, op: Op) -> &[KindSpec]
-    requires { IsHardware h.now }
-    ensures kinds { result.now ≡ kinds_of h.now op }
-    ensures few { length result.now ≤ 32 }
-{
-    match listed(h, op) {
-        Some(listed) => listed.kinds.as_slice(),
-        None => &[],
     }
 }
 

@@ -2,11 +2,12 @@
 ghost use Rattle.std.specs.Prelude.{◌≡◌, ◌≤◌, ◌++◌, map, length, option_map, IfOk, OnOk};
 ghost use Rattle.std.specs.Option.{option_map_or};
 ghost use Rattle.rely_hard.specs.Valid.{IsHardware};
+ghost use Rattle.rely_tree.specs.Tree.{variables};
 ghost use Rattle.rely_tree.specs.Shape.{ident_shape, kind_shape, decl_shape, said_shape, func_shape};
 ghost use Rattle.rely_resolve.specs.Kernels.{slot_of, var_of, needs_of, claim_of, kernel_of, done_of};
-ghost use Rattle.rely_resolve.specs.Limits.{IsFunction};
+ghost use Rattle.rely_tree.specs.Limits.{IsFunction};
 ghost use Rattle.rely_resolve.specs.Linked.{fault_of};
-ghost use Rattle.rely_resolve.specs.Names.{number_of, names, memory_names, variables};
+ghost use Rattle.rely_resolve.specs.Names.{number_of, names, memory_names};
 
 use crate::declarations::{claims as claims_faults, limit, memories, twice};
 use crate::expr::mark_of;

@@ -3,12 +3,14 @@ ghost use Rattle.std.specs.Prelude.{◌≡◌, ◌≤◌, ◌<◌, ◌⊎◌, �
 ghost use Rattle.std.specs.List.{AllByRecursion};
 ghost use Rattle.rely_hard.specs.Valid.{IsHardware};
 ghost use Rattle.rely_kernel.specs.Machine.{functions};
-ghost use Rattle.rely_kernel.specs.Setting.{IsOn};
+ghost use Rattle.rely_kernel.specs.Setting.{IsOn, marks_of};
 ghost use Rattle.rely_kernel.specs.Valid.{IsLinked};
 ghost use Rattle.rely_tree.specs.Shape.{func_shape, unit_shape};
 ghost use Rattle.rely_resolve.specs.Kernels.{done_of, kernel_of};
-ghost use Rattle.rely_resolve.specs.Limits.{IsFunction, IsUnit};
+ghost use Rattle.rely_tree.specs.Limits.{IsFunction, IsUnit};
 ghost use Rattle.rely_resolve.specs.Linked.{fault_of, linked_at, linked_from, linked_of, nothing_done, twice_among, with_function};
+ghost use Rattle.rely_resolve.specs.Marked.{AreMarkedAs, AreOpenWhereMarked};
+ghost use Rattle.rely_resolve.specs.Reached.{IsLinkedBy};
 
 use crate::fault::NameFault;
 use crate::kernel::{fault_of, kernel_of};
@@ -174,6 +176,9 @@ pub fn resolve(
     ensures err { IfErr result (λ e. (e ≡ NameFault.Memory) ⊎ (linked_of (unit_shape unit.now) function.now h.now ≡ Err e)) }
     ensures valid { IfOk result IsLinked }
     ensures on { IfOk result (λ l. AllByRecursion (IsOn h.now) (functions l)) }
+    ensures reached { IfOk result (IsLinkedBy h.now (unit_shape unit.now) function.now) }
+    ensures marks { IfOk result (λ l. AreMarkedAs (unit_shape unit.now) function.now (marks_of l.kernel)) }
+    ensures open_marks { IfOk result (λ l. AreOpenWhereMarked (unit_shape unit.now) (marks_of l.kernel)) }
 {
     let functions = unit.functions;
     if let Some(fault) = twice(functions) {

@@ -2,9 +2,9 @@
 ghost use Rattle.std.specs.Prelude.{◌≡◌, ◌≤◌, ◌+◌, ◌++◌, map, length, IfOk, OnOk};
 ghost use Rattle.rely_hard.specs.Valid.{IsHardware};
 ghost use Rattle.rely_tree.specs.Shape.{stmt_shape, block_shape, decl_shape, func_shape};
-ghost use Rattle.rely_resolve.specs.Counts.{stmt_operators, block_operators, stmt_calls, block_calls};
+ghost use Rattle.rely_tree.specs.Counts.{stmt_operators, block_operators, stmt_calls, block_calls};
 ghost use Rattle.rely_resolve.specs.Kernels.{kind_of, sts_of, start_of, stmt_sites, block_sites, stmt_sites_called, block_sites_called, done_of};
-ghost use Rattle.rely_resolve.specs.Limits.{HasNumbers, HaveNumbers};
+ghost use Rattle.rely_tree.specs.Limits.{HasNumbers, HaveNumbers};
 ghost use Rattle.rely_resolve.specs.Names.{names};
 
 use crate::calls::call_site;

@@ -1,5 +1,5 @@
 -- Syntax trees as plain data: no place in an arena, no reference.
-use Rattle.std.specs.Prelude.{ℕ, List, Option}
+use Rattle.std.specs.Prelude.{ℕ, List, ◌++◌, Option}
 use Rattle.rely_num.specs.Texts.{Bytes}
 use Rattle.rely_num.specs.declared.op.Op.{Op}
 use Rattle.rely_num.specs.declared.span.Span.{Span}
@@ -57,6 +57,10 @@ pub record FuncTree : Type 0 where
   pub locals : List DeclTree
   pub claims : List SaidTree
   pub body : Block
+
+-- parameters, then locals
+abbrev pub variables : FuncTree → List DeclTree
+variables f = f.params ++ f.locals
 
 -- a whole source
 pub record UnitTree : Type 0 where

@@ -1,9 +1,9 @@
 use Rattle.std.proofs.Common.{◌≡◌, ◌+◌, ◌++◌, map, drop, length}
 use Rattle.std.specs.List.{AllByRecursion}
 use Rattle.rely_tree.specs.Shape.{decl_shape, expr_shape}
-use Rattle.rely_resolve.specs.Counts.{exprs_operators}
+use Rattle.rely_tree.specs.Counts.{exprs_operators}
 use Rattle.rely_resolve.specs.Kernels.{exs_of, exprs_sites}
-use Rattle.rely_resolve.specs.Limits.{IsExpr}
+use Rattle.rely_tree.specs.Limits.{IsExpr}
 use Rattle.rely_resolve.specs.Names.{names}
 use Rattle.rely_resolve.proofs.expr.exprs.Given as goal
 

@@ -2,7 +2,7 @@ use Rattle.std.proofs.Common.{◌≡◌, ◌≤◌, [], map, take, drop, length}
 use Rattle.std.specs.List.{AllByRecursion}
 use Rattle.rely_tree.specs.Shape.{func_shape}
 use Rattle.rely_resolve.specs.Kernels.{done_of}
-use Rattle.rely_resolve.specs.Limits.{IsFunction}
+use Rattle.rely_tree.specs.Limits.{IsFunction}
 use Rattle.rely_resolve.specs.Linked.{linked_from, marks, nothing_done}
 use Rattle.rely_resolve.proofs.link.link.Given as goal
 

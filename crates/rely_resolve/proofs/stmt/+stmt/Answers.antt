@@ -3,8 +3,8 @@ use Rattle.rely_tree.specs.Shape.{expr_shape, stmt_shape, block_shape}
 use Rattle.rely_tree.specs.Tree.{IfTree, WhileTree, RepeatTree}
 use Rattle.rely_tree.specs.declared.stmt.Stmt.{the_lemmas}
 use Rattle.rely_tree.proofs.Shapes.{stmt_shape-If, stmt_shape-While, stmt_shape-Repeat}
-use Rattle.rely_resolve.specs.Counts.{stmt_operators, stmt_calls}
-use Rattle.rely_resolve.specs.Limits.{HasNumbers}
+use Rattle.rely_tree.specs.Counts.{stmt_operators, stmt_calls}
+use Rattle.rely_tree.specs.Limits.{HasNumbers}
 use Rattle.rely_resolve.proofs.stmt.+stmt.Goals as goal
 
 pub stmt-block-requires : goal.stmt-block-requires

@@ -1,8 +1,8 @@
 use Rattle.std.proofs.Common.{◌≡◌, ◌+◌, ◌++◌, map, drop, length}
 use Rattle.rely_tree.specs.Shape.{decl_shape, func_shape, block_shape}
-use Rattle.rely_resolve.specs.Counts.{block_operators, block_calls}
+use Rattle.rely_tree.specs.Counts.{block_operators, block_calls}
 use Rattle.rely_resolve.specs.Kernels.{sts_of, block_sites, block_sites_called, done_of}
-use Rattle.rely_resolve.specs.Limits.{HaveNumbers}
+use Rattle.rely_tree.specs.Limits.{HaveNumbers}
 use Rattle.rely_resolve.specs.Names.{names}
 use Rattle.rely_resolve.proofs.stmt.+stmt.Given as goal
 

@@ -2,9 +2,8 @@
 use Rattle.std.specs.Prelude.{◌^◌, ◌≤◌, ◌<◌, length, IfSome}
 use Rattle.std.specs.List.{AllByRecursion}
 use Rattle.rely_num.specs.Bounds.{S}
-use Rattle.rely_tree.specs.Tree.{ExprTree, NumTree, NameTree, ElemTree, BinTree, StmtTree, SetTree, SetElemTree, IfTree, WhileTree, RepeatTree, ReturnTree, CallTree, Block, ended, also, FuncTree, UnitTree}
-use Rattle.rely_resolve.specs.Counts.{block_operators, block_calls}
-use Rattle.rely_resolve.specs.Names.{variables}
+use Rattle.rely_tree.specs.Tree.{ExprTree, NumTree, NameTree, ElemTree, BinTree, StmtTree, SetTree, SetElemTree, IfTree, WhileTree, RepeatTree, ReturnTree, CallTree, Block, ended, also, FuncTree, UnitTree, variables}
+use Rattle.rely_tree.specs.Counts.{block_operators, block_calls}
 
 -- its numbers are below 2^63
 abbrev pub IsExpr : ExprTree → Type 0
