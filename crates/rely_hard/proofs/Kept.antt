@@ -31,17 +31,17 @@ use Rattle.rely_hard.proofs.Lists.{each_after-more}
 -- ---- steps
 
 -- what a step gives goes on to the next
-bind_ok : {A B : Type 0} (Q : A → Type 0) (P : B → Type 0) (r : Result A HardFault) (f : A → Result B HardFault) → IfOk r Q → ((a : A) → Q a → IfOk (f a) P) → IfOk (r >>= f) P
+pub bind_ok : {A B : Type 0} (Q : A → Type 0) (P : B → Type 0) (r : Result A HardFault) (f : A → Result B HardFault) → IfOk r Q → ((a : A) → Q a → IfOk (f a) P) → IfOk (r >>= f) P
 bind_ok Q P (Ok a) f h j = j a h
 bind_ok Q P (Err e) f h j = tt
 
 -- a step of which nothing is known
-skip_ok : {A B : Type 0} (P : B → Type 0) (r : Result A HardFault) (f : A → Result B HardFault) → ((a : A) → IfOk (f a) P) → IfOk (r >>= f) P
+pub skip_ok : {A B : Type 0} (P : B → Type 0) (r : Result A HardFault) (f : A → Result B HardFault) → ((a : A) → IfOk (f a) P) → IfOk (r >>= f) P
 skip_ok P (Ok a) f j = j a
 skip_ok P (Err e) f j = tt
 
 -- what passes
-unless_ok : {A : Type 0} (P : A → Type 0) (bad : Bool) (why : HardWhy) (p : Place) (a : A) → (bad ≡ false → P a) → IfOk (unless bad why p a) P
+pub unless_ok : {A : Type 0} (P : A → Type 0) (bad : Bool) (why : HardWhy) (p : Place) (a : A) → (bad ≡ false → P a) → IfOk (unless bad why p a) P
 unless_ok P true why p a h = tt
 unless_ok P false why p a h = h refl
 

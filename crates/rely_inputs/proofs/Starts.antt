@@ -15,8 +15,9 @@ use Rattle.rely_kernel.specs.declared.kernel.Var.{Var}
 use Rattle.rely_kernel.specs.declared.setting.Store.{Store}
 use Rattle.rely_kernel.specs.Bound.{IsStart}
 use Rattle.rely_kernel.specs.Machine.{size, zeros, parameters, locals}
+use Rattle.rely_kernel.specs.Running.{All-fit}
 use Rattle.rely_kernel.specs.Valid.{IsValid}
-use Rattle.rely_kernel.proofs.Numbers.{Fits, All-fit, fits_zero}
+use Rattle.rely_kernel.proofs.Numbers.{Fits, fits_zero}
 use Rattle.rely_kernel.proofs.Same.{Numbers}
 use Rattle.rely_kernel.proofs.Shape.{IsCell, IsFirst, all_param}
 use Rattle.rely_inputs.specs.declared.fault.InputFault.{InputFault}
@@ -29,7 +30,7 @@ use Rattle.rely_inputs.proofs.Read64.{On, AllSmall, ItemsSmall, MembersSmall, sm
 -- ---- steps
 
 -- what a step gives goes on to the next
-bind_ok : {A B : Type 0} (Q : A → Type 0) (P : B → Type 0) (r : Result A InputFault) (f : A → Result B InputFault) → IfOk r Q → ((a : A) → Q a → IfOk (f a) P) → IfOk (r >>= f) P
+pub bind_ok : {A B : Type 0} (Q : A → Type 0) (P : B → Type 0) (r : Result A InputFault) (f : A → Result B InputFault) → IfOk r Q → ((a : A) → Q a → IfOk (f a) P) → IfOk (r >>= f) P
 bind_ok Q P (Ok a) f h j = j a h
 bind_ok Q P (Err e) f h j = tt
 
@@ -39,7 +40,7 @@ must_ok P why p None h = tt
 must_ok P why p (Some a) h = h
 
 -- what passes
-unless_ok : {A : Type 0} (P : A → Type 0) (bad : Bool) (why : InputWhy) (p : Place) (a : A) → (bad ≡ false → P a) → IfOk (unless bad why p a) P
+pub unless_ok : {A : Type 0} (P : A → Type 0) (bad : Bool) (why : InputWhy) (p : Place) (a : A) → (bad ≡ false → P a) → IfOk (unless bad why p a) P
 unless_ok P true why p a h = tt
 unless_ok P false why p a h = h refl
 
@@ -55,7 +56,7 @@ module _ {A X : Type 0} (Q : X → Type 0) (R : X → A → Type 0) (one : List 
   zip_more before x xs a h (Ok ys) k = record { more = a ∷ k.more; is = k.is ∙ append_assoc before (a ∷ []) k.more; zip = (h, k.zip) }
 
   -- each keeps the relation
-  each_zips : (xs : List X) (before : List A) → AllByRecursion Q xs → IfOk (each_after one before xs) (Zipped R before xs)
+  pub each_zips : (xs : List X) (before : List A) → AllByRecursion Q xs → IfOk (each_after one before xs) (Zipped R before xs)
   each_zips [] before h = record { more = []; is = sym (append-nil before); zip = tt }
   each_zips (x ∷ xs) before h = bind_ok (R x) (Zipped R before (x ∷ xs)) (one before x) _ (step before x h.0) (λ a k. zip_more before x xs a k (each_after one (before ++ a ∷ []) xs) (each_zips xs (before ++ a ∷ []) h.1))
 
@@ -73,7 +74,7 @@ unfolding number_at
 number_ok p d h = must_ok Fits Number p (option_and_then as_i64 (as_number d)) (fits_whole d h)
 
 -- not different
-same_from : (a b : ℕ) → not (a == b) ≡ false → a ≡ b
+pub same_from : (a b : ℕ) → not (a == b) ≡ false → a ≡ b
 same_from a b h = eqb-true a b (true_from (a == b) h)
   where
     true_from : (c : Bool) → not c ≡ false → c ≡ true

@@ -5,8 +5,10 @@
 mod cell;
 mod fault;
 mod file;
+mod laws;
 mod place;
 mod sample;
 
 pub use fault::{InputFault, InputWhy};
 pub use file::read;
+pub use laws::members;
