@@ -37,7 +37,7 @@ module _ (p : Label → ℕ) (fs : List Kernel) where
   costless_by : (is : List Item) (f : ℕ) → is ≡ [] → cost_of fs f is ≡ 0
   costless_by is f over = rw over refl
 
-  steps_each : (n : ℕ) (x : Trying) → tried_steps p fs (suc n) x ≡ cost_of fs x.config.function x.config.items + tried_steps p fs n (tried p fs x)
+  pub steps_each : (n : ℕ) (x : Trying) → tried_steps p fs (suc n) x ≡ cost_of fs x.config.function x.config.items + tried_steps p fs n (tried p fs x)
   unfolding tried_through
   steps_each n x = sum_by-cons (λ (c : Config). cost_of fs c.function c.items) x.config (tried_through p fs n (tried p fs x))
 
@@ -63,7 +63,7 @@ module _ (p : Label → ℕ) (fs : List Kernel) where
   same_steps : (m n : ℕ) (x : Trying) → IsFinished (tried_after p fs m x).config → IsFinished (tried_after p fs n x).config → tried_steps p fs m x ≡ tried_steps p fs n x
   same_steps m n x over also = let a = steps_within m n x also in let b = steps_within n m x over in omega (arith, a, b)
 
-same_fields : (o p : Tried) → o.store ≡ p.store → o.steps ≡ p.steps → o.words ≡ p.words → o ≡ p
+pub same_fields : (o p : Tried) → o.store ≡ p.store → o.steps ≡ p.steps → o.words ≡ p.words → o ≡ p
 same_fields o p store steps words =
     ap (λ (s : Store). record { store = s; steps = o.steps; words = o.words }) store
     ∙ (ap (λ n. record { store = p.store; steps = n; words = o.words }) steps ∙ ap (λ n. record { store = p.store; steps = p.steps; words = n }) words)

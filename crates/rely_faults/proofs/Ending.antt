@@ -10,7 +10,8 @@ use Rattle.rely_kernel.specs.Machine.{items}
 use Rattle.rely_kernel.specs.Setting.{Fits}
 use Rattle.rely_kernel.specs.Text.{Stmt, Block, done, ◌then◌, block_of}
 use Rattle.rely_kernel.specs.Valid.{BlockFits, BodyFits, IsValid, PlaceFits, StmtFits, block_calls, stmt_calls}
-use Rattle.rely_kernel.proofs.Fine.{AllFine, fine_body}
+use Rattle.rely_kernel.specs.Running.{AllFine}
+use Rattle.rely_kernel.proofs.Fine.{fine_body}
 use Rattle.rely_faults.specs.declared.outcome.Tried.{Tried}
 use Rattle.rely_faults.specs.declared.running.Running.{Running}
 use Rattle.rely_faults.specs.Going.{Counts, Ends, Exceeds, IsRunning, Runs, Stands, here, standing}

@@ -66,7 +66,7 @@ module _ (k : Kernel) (c : Config) (shape : HasShape k c.store) (z : ℤ) (fits 
   is_wrong_by (Call place ∷ rest) f g l e = absurd (cc)
   is_wrong_by (Leave ∷ rest) f g l e = absurd (cc)
 
-not_over : (i : Item) (rest : List Item) (f : ℕ) → moment_of f (i ∷ rest) ≢ Over
+pub not_over : (i : Item) (rest : List Item) (f : ℕ) → moment_of f (i ∷ rest) ≢ Over
 not_over (Push n) rest f e = absurd (cc)
 not_over (Read v) rest f e = absurd (cc)
 not_over (Elem a) rest f e = absurd (cc)

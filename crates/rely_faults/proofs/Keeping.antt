@@ -12,8 +12,9 @@ use Rattle.rely_kernel.specs.Bound.{HasShape}
 use Rattle.rely_kernel.specs.Machine.{Config, Item, Push, Read, Elem, Op, Write, WriteElem, Result, Choose, While, Repeat, Enter, Call, Leave, act, cell, chosen, expr_items, items, operator, right_by, stmt_items, top}
 use Rattle.rely_kernel.specs.Text.{Expr, Stmt, Block, done, ◌then◌, append}
 use Rattle.rely_kernel.specs.Valid.{ExprFits, is_scalar}
-use Rattle.rely_kernel.proofs.Fine.{AllFine, Fine, shape_write}
-use Rattle.rely_kernel.proofs.Numbers.{All-fit, Fits, fits_at, fits_operated, fits_read}
+use Rattle.rely_kernel.specs.Running.{All-fit, AllFine, Fine}
+use Rattle.rely_kernel.proofs.Fine.{shape_write}
+use Rattle.rely_kernel.proofs.Numbers.{Fits, fits_at, fits_operated, fits_read}
 use Rattle.rely_kernel.proofs.Shape.{cell_fits, shape_give, shape_put, top_fits}
 use Rattle.rely_faults.specs.Trial.{draw, no_word, one_word, two_words, wrong_by}
 

@@ -2,9 +2,12 @@ pub mod Acting
 pub mod Determined
 pub mod Drawing
 pub mod Ending
+pub mod Enough
+pub mod Finishing
 pub mod Following
 pub mod Keeping
 pub mod Looping
+pub mod Reading
 pub mod Taking
 pub mod Values
 pub mod Walking

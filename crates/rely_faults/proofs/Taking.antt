@@ -13,13 +13,13 @@ use Rattle.rely_faults.specs.Laws.{WordsAreTaken}
 use Rattle.rely_faults.specs.Trial.{Trying, draw, first, no_word, one_word, tried, tried_after, tried_by, two_words}
 
 -- the generator after n words
-abbrev behind : ℕ → Lcg → Lcg
+abbrev pub behind : ℕ → Lcg → Lcg
 behind n g = advance 128 multiplier_128 n g
 
-behind_next : (n : ℕ) (g : Lcg) → behind n (next 128 multiplier_128 g) ≡ behind (suc n) g
+pub behind_next : (n : ℕ) (g : Lcg) → behind n (next 128 multiplier_128 g) ≡ behind (suc n) g
 behind_next n g = advance_more 128 multiplier_128 n g ∙ (let e : n + 1 ≡ suc n = omega arith in ap (λ m. behind m g) e)
 
-behind_none : (g : Lcg) → behind 0 g ≡ g
+pub behind_none : (g : Lcg) → behind 0 g ≡ g
 behind_none g = advance_zero 128 multiplier_128 g
 
 behind_both : (n m : ℕ) (g : Lcg) → behind m (behind n g) ≡ behind (n + m) g
@@ -30,7 +30,7 @@ behind_both (suc n) m g =
     ∙ (behind_next (n + m) g ∙ (let e : suc (n + m) ≡ suc n + m = omega arith in ap (λ i. behind i g) e)))
 
 -- what is drawn stands behind as many
-drawn_behind : (p : ℕ) (g : Lcg) → (draw p g).words ≡ behind (draw p g).taken g
+pub drawn_behind : (p : ℕ) (g : Lcg) → (draw p g).words ≡ behind (draw p g).taken g
 unfolding draw
 drawn_behind p g = by_tests (p == S) (nat_lt ((pcg64 g).0 % S) p)
   where

@@ -1,3 +1,4 @@
 pub mod Going
 pub mod Laws
+pub mod Listed
 pub mod Trial

@@ -10,6 +10,9 @@ mod seeded;
 mod tally;
 mod walk;
 
-pub use laws::{each_step_follows, ends_or_passes, one_outcome, words_are_taken};
+pub use laws::{
+    each_step_follows, ends_or_passes, enough_words_end, has_outcome, more_words_are_left,
+    one_outcome, one_trial, words_are_generated, words_are_taken,
+};
 pub use outcome::Tried;
 pub use seeded::trial;

@@ -2,7 +2,7 @@ ghost use Rattle.std.specs.Prelude.{◌≡◌, ◌∷◌, [], IfOk, OnErr, OnOk}
 ghost use Rattle.rely_kernel.specs.Machine.{expr_items, items, stmt_items};
 ghost use Rattle.rely_kernel.specs.Text.{Stmt, block_of, expr_of, stmt_of};
 ghost use Rattle.rely_kernel.specs.Valid.{ExprFits};
-ghost use Rattle.rely_kernel.proofs.Fine.{AllFine, Fine};
+ghost use Rattle.rely_kernel.specs.Running.{AllFine, Fine};
 ghost use Rattle.rely_faults.specs.Going.{Exceeds, IsRunning, Runs, here};
 
 use crate::running::Running;

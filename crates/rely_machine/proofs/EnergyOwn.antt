@@ -1,17 +1,20 @@
 -- What a function uses and holds under its own kinds, item by item.
-use Rattle.std.proofs.Common.{◌≡◌, ℕ, zero, suc, ◌+◌, ◌*◌, List, [], ◌∷◌, map, length, Some, refl, sym, ap, ◌∙◌, subst, arith}
-use Rattle.std.specs.Prelude.{slice_get, slice_index, sum_by}
+use Rattle.std.proofs.Common.{◌≡◌, ℕ, zero, suc, ◌+◌, ◌*◌, List, [], ◌∷◌, map, length, Option, Some, None, refl, sym, ap, ◌∙◌, subst, arith}
+use Rattle.std.specs.Prelude.{find, slice_get, slice_index, sum_by}
 use Rattle.std.specs.List.{zip}
 use Rattle.std.specs.Option.{option_map_or}
 use Rattle.std.proofs.lemmas.List.Sums.{sum_by-cons}
 use Rattle.std.proofs.lemmas.Option.{same_Some}
+use Rattle.rely_num.specs.Ops.{is_op}
 use Rattle.rely_hard.specs.declared.hardware.Hardware.{Hardware}
+use Rattle.rely_hard.specs.declared.hardware.OpSpec.{OpSpec}
 use Rattle.rely_kernel.specs.declared.kernel.Kernel.{Kernel}
 use Rattle.rely_kernel.specs.declared.kernel.Site.{Site}
 use Rattle.rely_kernel.specs.declared.kernel.Var.{Var}
 use Rattle.rely_kernel.specs.declared.label.Label.TheVariants as label
 use Rattle.rely_kernel.specs.Machine.{size}
 use Rattle.rely_kernel.specs.Rates.{named, own}
+use Rattle.rely_kernel.specs.Setting.{kinds_of}
 use Rattle.rely_machine.specs.Cost.{energy_of, held, hold, kind_energy}
 use Rattle.rely_machine.specs.EnergySums.{of_label, of_sites, of_vars, read_energy, sum_from, write_energy}
 use Rattle.rely_machine.proofs.EnergyCounts.{from_same}
@@ -21,6 +24,15 @@ kept_at : {X : Type 0} (kept : X → ℕ) (xs : List X) (j : ℕ) (x : X) → sl
 kept_at kept [] j x e = absurd (cc)
 kept_at kept (y ∷ xs) zero x e = ap kept (same_Some y x e)
 kept_at kept (y ∷ xs) (suc j) x e = kept_at kept xs j x e
+
+-- the kind's energy, among the kinds that the hardware lists for the operator
+pub listed_energy : (h : Hardware) (kind : ℕ) (site : Site) → option_map_or (λ s. s.energy) (slice_get (kinds_of h site.op) kind) 0 ≡ kind_energy h kind site
+listed_energy h kind site = by_case (find (λ o. is_op o.op site.op) h.operators)
+  where
+    by_case : (found : Option OpSpec)
+        → option_map_or (λ s. s.energy) (slice_get (option_map_or (λ o. o.kinds) found []) kind) 0 ≡ option_map_or (λ o. option_map_or (λ s. s.energy) (slice_get o.kinds kind) 0) found 0
+    by_case None = refl
+    by_case (Some o) = refl
 
 module _ (h : Hardware) (k : Kernel) where
   own_kind : (i : ℕ) (s : Site) → slice_get k.sites i ≡ Some s → kind_energy h (named s.kind) s ≡ energy_of h k (own k) (label.Op i)

@@ -1,7 +1,6 @@
 ghost use Rattle.std.specs.Prelude.{◌≡◌, ◌<◌, ◌≤◌, List, [], get_or, length, slice_get, slice_index, sum_by};
 ghost use Rattle.std.specs.List.{AllZip};
 ghost use Rattle.std.specs.Option.{option_map_or};
-ghost use Rattle.rely_num.specs.Ops.{is_op};
 ghost use Rattle.rely_hard.specs.Valid.{IsHardware};
 ghost use Rattle.rely_kernel.specs.declared.setting.Store.{Store};
 ghost use Rattle.rely_kernel.specs.Machine.{size};
@@ -13,8 +12,7 @@ ghost use Rattle.rely_machine.specs.Run.{IsOutcome, most_runs, steps_limit};
 
 use crate::outcome::Outcome;
 use rely_hard::{Hardware, KindSpec};
-use rely_kernel::{Kernel, Linked, Site, Slot, Var};
-use rely_num::Op;
+use rely_kernel::{Kernel, Linked, Site, Slot, Var, kinds_of};
 
 /// The energy of reliable runs by their outcomes, under the kinds that the functions name: an open place has the first.
 pub fn energy(k: &Linked, h: &Hardware, runs: &[Outcome]) -> u64
@@ -125,18 +123,7 @@ fn size(var: &Var) -> u64
 fn site_energy(h: &Hardware, site: &Site) -> u64
     ensures { result ≡ kind_energy h.now (named site.now.kind) site.now }
 {
-    for operator in h.operators.as_slice() {
-        if same_operator(operator.op, site.op) {
-            return kind_energy(operator.kinds.as_slice(), number(site.kind));
-        }
-    }
-    0
-}
-
-fn same_operator(a: Op, b: Op) -> bool
-    ensures { result ≡ is_op a b }
-{
-    a == b
+    kind_energy(kinds_of(h, site.op), number(site.kind))
 }
 
 fn kind_energy(kinds: &[KindSpec], kind: usize) -> u64

@@ -1,6 +1,5 @@
 -- The walk through a choice or a loop, as code takes it apart.
-use Rattle.std.proofs.Common.{◌≡◌, ℕ, zero, suc, ◌<◌, Bool, true, false, List, [], ◌∷◌, ◌++◌, length, get_or, refl, sym, ap, subst, ◌∙◌, true≢false, arith, ◌==◌}
-use Rattle.std.proofs.lemmas.Bool.{eqb-true, eqb-false}
+use Rattle.std.proofs.Common.{◌≡◌, ℕ, zero, suc, ◌<◌, true, false, List, [], ◌∷◌, ◌++◌, length, get_or, refl, sym, ap, subst, ◌∙◌, true≢false, arith}
 use Rattle.rely_num.specs.declared.conj.Conj.{Conj}
 use Rattle.rely_num.specs.declared.span.Span.{Span}
 use Rattle.rely_kernel.specs.declared.kernel.Kernel.{Kernel}
@@ -51,12 +50,6 @@ module _ (k : Kernel) (at : Span) (what : StKind) (ps : List Conj) (work : ℕ) 
 
   pub walk_some : 0 < length ts → beside k at (line_of what) us ts work ≡ walk k at (line_of what) ps work
   walk_some some = sym (split_is ∙ joined_some at us ts (λ qs w. inside k at (line_of what) qs w) work some)
-
-pub empty_is : (b : Bool) (n : ℕ) → b ≡ (n == 0) → b ≡ true → n ≡ 0
-empty_is b n e h = eqb-true n 0 (sym e ∙ h)
-
-pub some_is : (b : Bool) (n : ℕ) → b ≡ (n == 0) → b ≡ false → 0 < n
-some_is b n e h = let f = eqb-false n 0 (sym e ∙ h) in omega arith
 
 -- ---- numbers in range
 

@@ -135,7 +135,7 @@ raise_zeros : (by : List ℕ) → list_any (nat_lt 0) by ≡ false → (xs : Lis
 raise_zeros by h [] = refl
 raise_zeros by h (x ∷ xs) = λ i. record x { counts = zeros by x.counts h i } ∷ raise_zeros by h xs i
 
-covered_under : (cs ds : List Conj) → all_covered cs ds ≡ true → Under ds cs
+pub covered_under : (cs ds : List Conj) → all_covered cs ds ≡ true → Under ds cs
 covered_under [] ds h c m = absurd m
 covered_under (x ∷ cs) ds h c m =
     let p = and_parts (list_any (λ d. covers d x) ds) (all_covered cs ds) h in

@@ -2,6 +2,7 @@ mod Examples
 pub mod Bumps
 pub mod Carried
 pub mod Claims
+pub mod Covering
 pub mod Grown
 pub mod Insides
 pub mod Iterated
@@ -16,6 +17,7 @@ pub mod Raised
 pub mod Sets
 pub mod Shape
 pub mod Steps
+pub mod Still
 pub mod Stops
 pub mod Turning
 pub mod Weights

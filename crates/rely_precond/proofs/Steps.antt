@@ -1,10 +1,8 @@
 -- Lists that grow by what a step makes of one conjunct.
-use Rattle.std.proofs.Common.{◌≡◌, ℕ, zero, suc, ◌+◌, ◌<◌, ◌^◌, ◌||◌, List, [], ◌∷◌, ◌++◌, map, flat_map, take, length, get_or, nat_le, IsTrue, sym, ap, subst, ◌∙◌, arith, append-nil}
+use Rattle.std.proofs.Common.{◌≡◌, ℕ, zero, suc, ◌<◌, ◌^◌, ◌||◌, List, [], ◌∷◌, ◌++◌, map, flat_map, length, get_or, nat_le, IsTrue, sym, ap, subst, ◌∙◌, arith, append_assoc}
 use Rattle.std.specs.List.{list_any}
 use Rattle.std.proofs.lemmas.Bool.{or_left, or_right}
-use Rattle.std.proofs.lemmas.List.{take_more}
 use Rattle.std.proofs.lemmas.List.Folds.{list_any-append}
-use Rattle.std.proofs.lemmas.Grind.{flat_map-append}
 use Rattle.rely_num.specs.declared.conj.Conj.{Conj}
 use Rattle.rely_kernel.specs.declared.kernel.Kernel.{Kernel}
 use Rattle.rely_kernel.specs.declared.kernel.StKind.{StKind}
@@ -27,32 +25,29 @@ too_many_left xs ys h = too_many_append xs ys ∙ or_left (too_many xs) (too_man
 pub too_many_right : (xs ys : List Conj) → IsTrue (too_many ys) → IsTrue (too_many (xs ++ ys))
 too_many_right xs ys h = too_many_append xs ys ∙ or_right (too_many xs) (too_many ys) h
 
-flat_too_many : (f : Conj → List Conj) (cs : List Conj) (i : ℕ) (c : Conj) → i < length cs → IsTrue (too_many (f (get_or cs i c))) → IsTrue (too_many (flat_map f cs))
-flat_too_many f [] i c h t = absurd (omega (arith, h))
-flat_too_many f (x ∷ cs) zero c h t = too_many_left (f x) (flat_map f cs) t
-flat_too_many f (x ∷ cs) (suc i) c h t = too_many_right (f x) (flat_map f cs) (flat_too_many f cs i c (omega (arith, h)) t)
-
 -- ---- one conjunct more
-
-one_more : (cs : List Conj) (i : ℕ) (c : Conj) → i < length cs → c ≡ get_or cs i c → take (i + 1) cs ≡ take i cs ++ c ∷ []
-one_more cs i c h is = take_more cs i c h ∙ ap (λ x. take i cs ++ x ∷ []) (sym is)
 
 pub through_is : (k : Kernel) (what : StKind) (cs : List Conj) → changed k (line_of what) cs ≡ flat_map (λ c. past (skips (stmt_of what) c) (paths k (stmt_of what)) c) cs
 through_is k what cs = ap (λ s. flat_map (λ c. past (skips s c) (paths k s) c) cs) (line_plain what)
 
-module _ (k : Kernel) (what : StKind) (cs : List Conj) (i : ℕ) (c : Conj) (h : i < length cs) (is : c ≡ get_or cs i c) where
+module _ (k : Kernel) (what : StKind) (c : Conj) (rest : List Conj) where
   abbrev goes : Conj → List Conj
   goes x = past (skips (stmt_of what) x) (paths k (stmt_of what)) x
 
-  pub changed_more : (next : Conj) (list more : List Conj) → past (skips (stmt_of what) c) (paths k (stmt_of what)) c ≡ next ∷ [] → list ≡ changed k (line_of what) (take i cs) → more ≡ list ++ next ∷ []
-      → more ≡ changed k (line_of what) (take (i + 1) cs)
-  changed_more next list more one so_far pushed =
-      pushed ∙ ap (λ xs. xs ++ next ∷ []) (so_far ∙ through_is k what (take i cs)) ∙ ap (λ xs. flat_map goes (take i cs) ++ xs) (sym (append-nil (goes c) ∙ one))
-      ∙ sym (flat_map-append goes (take i cs) (c ∷ [])) ∙ ap (flat_map goes) (sym (one_more cs i c h is)) ∙ sym (through_is k what (take (i + 1) cs))
+  -- the first of them, and what is left
+  changed_first : changed k (line_of what) (c ∷ rest) ≡ goes c ++ changed k (line_of what) rest
+  changed_first = through_is k what (c ∷ rest) ∙ ap (λ xs. goes c ++ xs) (sym (through_is k what rest))
 
-  pub changed_full : IsTrue (too_many (past (skips (stmt_of what) c) (paths k (stmt_of what)) c)) → IsTrue (too_many (changed k (line_of what) cs))
-  changed_full t =
-      subst (λ (xs : List Conj). IsTrue (too_many xs)) (sym (through_is k what cs)) (flat_too_many goes cs i c h (subst (λ (x : Conj). IsTrue (too_many (goes x))) is t))
+  pub changed_more : (next : Conj) (list more : List Conj) → goes c ≡ next ∷ [] → more ≡ list ++ next ∷ []
+      → more ++ changed k (line_of what) rest ≡ list ++ changed k (line_of what) (c ∷ rest)
+  changed_more next list more one pushed =
+      ap (λ xs. xs ++ changed k (line_of what) rest) pushed ∙ append_assoc list (next ∷ []) (changed k (line_of what) rest)
+      ∙ ap (λ xs. list ++ (xs ++ changed k (line_of what) rest)) (sym one) ∙ ap (λ xs. list ++ xs) (sym changed_first)
+
+  pub changed_full : (list all : List Conj) → list ++ changed k (line_of what) (c ∷ rest) ≡ all → IsTrue (too_many (goes c)) → IsTrue (too_many all)
+  changed_full list all e t =
+      subst (λ (xs : List Conj). IsTrue (too_many xs)) (ap (λ xs. list ++ xs) (sym changed_first) ∙ e)
+      (too_many_right list (goes c ++ changed k (line_of what) rest) (too_many_left (goes c) (changed k (line_of what) rest) t))
 
 -- ---- a condition added
 

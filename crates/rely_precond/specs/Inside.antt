@@ -1,9 +1,10 @@
 -- What becomes of the conjuncts that a choice or a loop writes.
-use Rattle.std.specs.Prelude.{ℕ, zero, suc, Bool, true, false, List, ◌++◌, map}
+use Rattle.std.specs.Prelude.{ℕ, zero, suc, Bool, true, false, ◌||◌, List, ◌++◌, map}
+use Rattle.std.specs.List.{list_all}
 use Rattle.rely_num.specs.declared.conj.Conj.{Conj}
 use Rattle.rely_num.specs.declared.span.Span.{Span}
 use Rattle.rely_kernel.specs.declared.kernel.Kernel.{Kernel}
-use Rattle.rely_kernel.specs.Paths.{use_of}
+use Rattle.rely_kernel.specs.Paths.{skips, use_of}
 use Rattle.rely_kernel.specs.Text.{Stmt}
 use Rattle.rely_precond.specs.Places.{Line}
 use Rattle.rely_precond.specs.Walk.{Walked, Stands, and_then, stand, repeats, whiles, walk_all}
@@ -19,6 +20,10 @@ is_idle (Stmt.Repeat n s) = false
 is_idle (Stmt.Result e) = false
 is_idle (Stmt.Call v place es) = false
 is_idle Stmt.Enter = false
+
+-- nothing changes: at a `while` of no turn, and where the statement writes nothing of any conjunct
+abbrev pub stands_still : Stmt → List Conj → Bool
+stands_still s ps = is_idle s || list_all (skips s) ps
 
 abbrev pub inside : Kernel → Span → Line → List Conj → ℕ → Walked
 inside k at (Line.Set v e) ts w = Stands ts w

@@ -1,4 +1,5 @@
 pub mod Answers
+pub mod Covering
 pub mod InRange
 pub mod Inside
 pub mod Places

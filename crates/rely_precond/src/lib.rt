@@ -16,5 +16,5 @@ mod turns;
 mod written;
 
 pub use fault::PreFault;
-pub use laws::{walk_commutes_with_shift, wide_at_a_prefix};
+pub use laws::{covering_is_kept, walk_commutes_with_shift, wide_at_a_prefix};
 pub use precondition::generate;

@@ -1,5 +1,6 @@
 //! Lists of conjuncts: copies of those of a predicate, and what a step of the walk makes of them.
 ghost use Rattle.std.specs.Prelude.{◌≡◌, ◌-◌, ◌^◌, ◌++◌, [], ◌∷◌, bit_and, ◌==◌, not, filter, map, length, IfErr, IfOk, IfSome, IsNone, IsTrue};
+ghost use Rattle.std.specs.List.{list_all};
 ghost use Rattle.rely_kernel.specs.Machine.{parameters};
 ghost use Rattle.rely_kernel.specs.Paths.{writes, skips, past, paths, use_of, at_start};
 ghost use Rattle.rely_kernel.specs.Text.{expr_of, stmt_of};
@@ -12,6 +13,7 @@ ghost use Rattle.rely_precond.specs.Walk.{changed};
 
 use crate::fault::PreFault;
 use crate::growth::{through, use_of};
+use crate::written::written;
 use rely_kernel::{Ex, Kernel, StKind};
 use rely_num::{Conj, List, Span, VarSet};
 use std::alloc::Global;
@@ -47,6 +49,13 @@ fn is_skipped(written: VarSet, c: &Conj) -> bool
     ensures { result ≡ (bit_and written.bits c.now.vars.bits == 0) }
 {
     written.bits & c.vars.bits == 0
+}
+
+/// Whether no conjunct has one of these variables.
+pub(crate) fn are_skipped(written: VarSet, conjs: &[Conj]) -> bool
+    ensures { result ≡ list_all (λ c. bit_and written.bits c.vars.bits == 0) conjs.now }
+{
+    conjs.iter().all(|c| is_skipped(written, c))
 }
 
 /// The conjuncts that have none of these variables.
@@ -126,19 +135,18 @@ pub(crate) fn changed(
     k: &Kernel,
     at: Span,
     what: &StKind,
-    written: VarSet,
-    conjs: &[Conj],
+    conjs: Vec<Conj>,
 ) -> Result<Vec<Conj>, PreFault>
     requires valid { IsValid k.now }
     requires in_range { StmtInRange k.now (stmt_of what.now) }
     requires plain { IsTrue (is_plain (stmt_of what.now)) }
-    requires written { written.bits ≡ writes (stmt_of what.now) }
-    ensures ok { IfOk result (λ list. list.items ≡ changed k.now (line_of what.now) conjs.now) }
-    ensures err { IfErr result (λ f. IsFull at (changed k.now (line_of what.now) conjs.now) f) }
+    ensures ok { IfOk result (λ list. list.items ≡ changed k.now (line_of what.now) conjs.items) }
+    ensures err { IfErr result (λ f. IsFull at (changed k.now (line_of what.now) conjs.items) f) }
 {
+    let written = written(what);
     let mut list = Vec::new(alloc);
     for c in conjs {
-        let Some(next) = past(k, what, written, copy(alloc, c)?) else {
+        let Some(next) = past(k, what, written, c) else {
             return Err(PreFault::Count(at));
         };
         list.push(next)?;

@@ -54,8 +54,7 @@ pub(crate) fn copy_of(alloc: Global, list: &Predicate) -> Result<Predicate, PreF
     ensures labels { IfOk result (λ p. p.labels ≡ list.now.labels) }
     ensures err { IfErr result (λ f. f ≡ PreFault.Memory) }
 {
-    let conjs = with_copies(alloc, Vec::new(alloc), list.conjs())?;
-    of_few(alloc, list.shape(), conjs)
+    Ok(list.copy(alloc)?)
 }
 
 /// What the turns of a loop left stands behind the others.

@@ -1,23 +1,24 @@
 //! The walk through the statements of a text, from the last to the first.
-ghost use Rattle.std.specs.Prelude.{◌≡◌, ◌<◌, false, length, IfErr, IfOk, IsTrue};
+ghost use Rattle.std.specs.Prelude.{◌≡◌, ◌<◌, ◌^◌, false, length, IfErr, IfOk, IsTrue};
 ghost use Rattle.std.specs.List.{All};
-ghost use Rattle.rely_kernel.specs.Paths.{use_of};
+ghost use Rattle.rely_kernel.specs.Paths.{use_of, writes};
 ghost use Rattle.rely_kernel.specs.Text.{block_of, expr_of, stmt_of};
 ghost use Rattle.rely_kernel.specs.Valid.{IsValid};
 ghost use Rattle.rely_precond.specs.Answers.{IsStop};
 ghost use Rattle.rely_precond.specs.InRange.{BlockInRange, ExprInRange, StmtInRange, is_plain};
-ghost use Rattle.rely_precond.specs.Inside.{is_idle, beside};
+ghost use Rattle.rely_precond.specs.Inside.{is_idle, stands_still, beside};
 ghost use Rattle.rely_precond.specs.Places.{Line, line_of, lines_of};
 ghost use Rattle.rely_precond.specs.Walk.{Stands, repeats, whiles, walk, walk_all};
 
 use crate::fault::PreFault;
-use crate::lists::{changed, with_copies};
+use crate::lists::{are_skipped, changed, with_copies};
 use crate::split::{copy_of, split, stand_branches, stand_turned};
 use crate::standing::{Listed, stand, stand_again};
 use crate::turns::{growth, multiply, settled, turn_while};
 use crate::written::written;
 use rely_kernel::{Ex, Kernel, St, StKind};
 use rely_num::{Conj, Span};
+use rely_predicate::Predicate;
 use std::alloc::Global;
 
 fn is_plain(what: &StKind) -> bool
@@ -36,6 +37,14 @@ fn is_idle(what: &StKind) -> bool
     matches!(what, StKind::While(_, 0, _))
 }
 
+// Nothing changes at a `while` of no turn, nor where no conjunct has a variable that is written.
+fn stands_still(what: &StKind, list: &Predicate) -> bool
+    requires { writes (stmt_of what.now) < 2 ^ 64 }
+    ensures { result ≡ stands_still (stmt_of what.now) list.now.conjs }
+{
+    is_idle(what) || are_skipped(written(what), list.conjs())
+}
+
 fn walk_plain(
     alloc: Global,
     k: &Kernel,
@@ -50,12 +59,13 @@ fn walk_plain(
     ensures labels { IfOk result (λ l. l.list.labels ≡ listed.list.labels) }
     ensures refused { IfErr result (λ f. IsStop (walk k.now at (line_of what.now) listed.list.conjs listed.work) f) }
 {
-    let list = changed(alloc, k, at, what, written(what), listed.list.conjs())?;
-    stand(alloc, listed.list.shape(), at, list, listed.work)
+    let labels = listed.list.shape();
+    let list = changed(alloc, k, at, what, listed.list.into_conjs())?;
+    stand(alloc, labels, at, list, listed.work)
 }
 
-/// The walk through a statement. A choice or a loop is walked where a conjunct has a variable that it writes,
-/// and the others stand beside what becomes of those.
+/// The walk through a statement: of a choice or a loop for the conjuncts that have a variable that it writes, and the
+/// others stand beside what becomes of those.
 #[cycle(walk)]
 fn walk(alloc: Global, k: &Kernel, statement: &St, listed: Listed) -> Result<Listed, PreFault>
     requires valid { IsValid k.now }
@@ -66,16 +76,13 @@ fn walk(alloc: Global, k: &Kernel, statement: &St, listed: Listed) -> Result<Lis
 {
     let at = statement.at;
     let what = &statement.what;
+    if stands_still(what, &listed.list) {
+        return stand_again(at, listed);
+    }
     if is_plain(what) {
         return walk_plain(alloc, k, at, what, listed);
     }
-    if is_idle(what) {
-        return stand_again(at, listed);
-    }
     let parts = split(alloc, what, &listed.list)?;
-    if parts.own.conjs().is_empty() {
-        return stand(alloc, listed.list.shape(), at, parts.others, listed.work);
-    }
     let own = Listed {
         list: parts.own,
         work: listed.work,

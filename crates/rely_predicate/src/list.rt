@@ -5,7 +5,8 @@ ghost use Rattle.rely_predicate.specs.Top.{covers, put, with_one};
 
 use crate::compare::{covers_any, is_before};
 use crate::predicate::PredFault;
-use rely_num::Conj;
+use rely_num::{Conj, List};
+use std::alloc::{AllocError, Global};
 
 /// The most conjuncts of a predicate.
 pub(crate) const MOST: usize = 256;
@@ -67,4 +68,25 @@ fn place(conjs: &[Conj], c: &Conj) -> usize
         at += 1;
     }
     at
+}
+
+/// Copies of conjuncts.
+pub(crate) fn copies(alloc: Global, conjs: &[Conj]) -> Result<Vec<Conj>, AllocError>
+    ensures { IfOk result (λ list. list.items ≡ conjs.now) }
+{
+    let mut list = Vec::new(alloc);
+    for c in conjs {
+        list.push(copy(alloc, c)?)?;
+    }
+    Ok(list)
+}
+
+fn copy(alloc: Global, c: &Conj) -> Result<Conj, AllocError>
+    ensures { IfOk result (λ d. d ≡ c.now) }
+{
+    let counts = Vec::from_slice(alloc, c.counts.as_slice())?;
+    Ok(Conj {
+        counts: List::from_vec(counts),
+        vars: c.vars,
+    })
 }

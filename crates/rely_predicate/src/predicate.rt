@@ -4,7 +4,7 @@ ghost use Rattle.rely_predicate.specs.Top.{top};
 ghost use Rattle.rely_predicate.specs.Shift.{times, raise};
 ghost use Rattle.rely_predicate.specs.Predicates.{IsPredicate, StaysBelow};
 
-use crate::list::add;
+use crate::list::{add, copies};
 use crate::raise::raise_each;
 use rely_num::Conj;
 use std::alloc::{AllocError, AllocFailed, Global};
@@ -77,6 +77,24 @@ impl Predicate {
         ensures valid { IsPredicate self.now }
     {
         self.conjs.as_slice()
+    }
+
+    /// Its conjuncts by themselves. It takes no memory.
+    pub fn into_conjs(self) -> Vec<Conj>
+        ensures value { result.items ≡ self.conjs }
+        ensures valid { IsPredicate self }
+    {
+        self.conjs
+    }
+
+    /// The same once more.
+    pub fn copy(&self, alloc: Global) -> Result<Predicate, AllocError>
+        ensures { IfOk result (λ p. p ≡ self.now) }
+    {
+        Ok(Predicate {
+            labels: self.labels,
+            conjs: copies(alloc, self.conjs.as_slice())?,
+        })
     }
 
     /// The number of labels.

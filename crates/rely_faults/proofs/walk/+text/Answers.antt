@@ -4,7 +4,7 @@ use Rattle.std.proofs.lemmas.Option.{slice_get_read}
 use Rattle.std.proofs.lemmas.Result.{on_err_weaker, on_ok_weaker}
 use Rattle.rely_kernel.specs.Machine.{Repeat, While, items, stmt_items}
 use Rattle.rely_kernel.specs.Text.{Stmt, block_of, expr_of, stmt_of}
-use Rattle.rely_kernel.proofs.Fine.{Fine}
+use Rattle.rely_kernel.specs.Running.{Fine}
 use Rattle.rely_kernel.proofs.TextLemmas.{text-If, text-While, text-Repeat}
 use Rattle.rely_machine.proofs.Listing.{fine_at}
 use Rattle.rely_machine.proofs.Reading.{zero_in, zero_of}

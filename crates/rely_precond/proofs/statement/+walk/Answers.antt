@@ -1,4 +1,4 @@
-use Rattle.std.proofs.Common.{◌≡◌, ◌-◌, ◌<◌, List, ◌++◌, length, sym, ap, subst, ◌∙◌, arith}
+use Rattle.std.proofs.Common.{◌≡◌, ◌-◌, List, ◌++◌, sym, ap, subst, ◌∙◌, arith}
 use Rattle.std.specs.Result.{IfOk, IfErr}
 use Rattle.std.proofs.lemmas.Result.{err_from_is_err_and}
 use Rattle.rely_num.specs.declared.conj.Conj.{Conj}
@@ -10,9 +10,10 @@ use Rattle.rely_precond.specs.InRange.{BlockInRange}
 use Rattle.rely_precond.specs.Inside.{beside}
 use Rattle.rely_precond.specs.Places.{line_of, lines_of}
 use Rattle.rely_precond.specs.Walk.{Walked, Stands, and_then, stand, repeats, whiles, walk_all}
-use Rattle.rely_precond.proofs.Insides.{idle_is, walk_empty, walk_some, empty_is, some_is, block_at, if_range, while_range, repeat_range, if_beside, while_beside, repeat_beside}
+use Rattle.rely_precond.proofs.Insides.{walk_some, block_at, if_range, while_range, repeat_range, if_beside, while_beside, repeat_beside}
 use Rattle.rely_precond.proofs.Parts.{Counted}
 use Rattle.rely_precond.proofs.Sets.{writes_fit}
+use Rattle.rely_precond.proofs.Still.{is_busy, some_own, still_is}
 use Rattle.rely_precond.proofs.Stops.{stop_err}
 use Rattle.rely_precond.proofs.Turning.{then_stops, then_goes, stop_as, one_stops, repeat_settled, repeat_on, repeat_last, while_stand, while_settled, while_on, while_last}
 use Rattle.rely_precond.proofs.Weights.{weights, weight_at, weight-If, weight-While, weight-Repeat}
@@ -100,46 +101,39 @@ repeat_while-loop-left-preserved t c = record {
   ];
 }
 
-pub walk-returns-then-is_idle-clause-ok : goal.walk-returns-then-is_idle-clause-ok
-walk-returns-then-is_idle-clause-ok t c =
-    subst (λ (w : Walked). IfOk c.stand_again.result (λ l. w ≡ Stands l.list.conjs l.work))
-    (idle_is c.args.k.now c.args.statement.now.at c.args.statement.now.what c.args.listed.list.conjs c.args.listed.work (sym c.is_idle.ensures ∙ c.if-is_idle.true)) c.stand_again.ensures.ok
+pub walk-stands_still-requires : goal.walk-stands_still-requires
+walk-stands_still-requires t c = writes_fit c.args.k.now c.requires.valid.few_vars (stmt_of c.args.statement.now.what) c.requires.in_range
 
-pub walk-returns-then-is_idle-clause-refused : goal.walk-returns-then-is_idle-clause-refused
-walk-returns-then-is_idle-clause-refused t c =
+pub walk-returns-then-stands_still-clause-ok : goal.walk-returns-then-stands_still-clause-ok
+walk-returns-then-stands_still-clause-ok t c =
+    subst (λ (w : Walked). IfOk c.stand_again.result (λ l. w ≡ Stands l.list.conjs l.work))
+    (still_is c.args.k.now c.args.statement.now.at c.args.statement.now.what c.args.listed.list.conjs c.args.listed.work (sym c.stands_still.ensures ∙ c.if-stands_still.true)) c.stand_again.ensures.ok
+
+pub walk-returns-then-stands_still-clause-refused : goal.walk-returns-then-stands_still-clause-refused
+walk-returns-then-stands_still-clause-refused t c =
     subst (λ (w : Walked). IfErr c.stand_again.result (λ f. IsStop w f))
-    (idle_is c.args.k.now c.args.statement.now.at c.args.statement.now.what c.args.listed.list.conjs c.args.listed.work (sym c.is_idle.ensures ∙ c.if-is_idle.true)) c.stand_again.ensures.refused
+    (still_is c.args.k.now c.args.statement.now.at c.args.statement.now.what c.args.listed.list.conjs c.args.listed.work (sym c.stands_still.ensures ∙ c.if-stands_still.true)) c.stand_again.ensures.refused
 
 pub walk-split-requires : goal.walk-split-requires
 walk-split-requires t c = writes_fit c.args.k.now c.requires.valid.few_vars (stmt_of c.args.statement.now.what) c.requires.in_range
 
-pub walk-returns-then-is_empty-clause-ok : goal.walk-returns-then-is_empty-clause-ok
-walk-returns-then-is_empty-clause-ok t c =
-    subst (λ (w : Walked). IfOk c.stand.result (λ l. w ≡ Stands l.list.conjs l.work))
-    (walk_empty c.args.k.now c.args.statement.now.at c.args.statement.now.what c.args.listed.list.conjs c.args.listed.work (sym c.is_plain.ensures ∙ c.if-is_plain.false) (sym c.is_idle.ensures ∙ c.if-is_idle.false)
-    c.in_ok-parts.parts.others.items c.in_ok-parts.parts.own.conjs c.in_ok-parts.ensures.others c.in_ok-parts.ensures.own
-    (ap length (sym c.conjs.ensures.value) ∙ empty_is c.is_empty.result (length c.conjs.result.now) c.is_empty.ensures c.if-is_empty.true)) c.stand.ensures.ok
-
-pub walk-returns-then-is_empty-clause-refused : goal.walk-returns-then-is_empty-clause-refused
-walk-returns-then-is_empty-clause-refused t c =
-    subst (λ (w : Walked). IfErr c.stand.result (λ f. IsStop w f))
-    (walk_empty c.args.k.now c.args.statement.now.at c.args.statement.now.what c.args.listed.list.conjs c.args.listed.work (sym c.is_plain.ensures ∙ c.if-is_plain.false) (sym c.is_idle.ensures ∙ c.if-is_idle.false)
-    c.in_ok-parts.parts.others.items c.in_ok-parts.parts.own.conjs c.in_ok-parts.ensures.others c.in_ok-parts.ensures.own
-    (ap length (sym c.conjs.ensures.value) ∙ empty_is c.is_empty.result (length c.conjs.result.now) c.is_empty.ensures c.if-is_empty.true)) c.stand.ensures.refused
-
 pub walk-returns-clause-ok : goal.walk-returns-clause-ok
 walk-returns-clause-ok t c =
+    let moves = sym c.stands_still.ensures ∙ c.if-stands_still.false in
     subst (λ (w : Walked). IfOk c.walk_inside.result (λ l. w ≡ Stands l.list.conjs l.work))
-    (walk_some c.args.k.now c.args.statement.now.at c.args.statement.now.what c.args.listed.list.conjs c.args.listed.work (sym c.is_plain.ensures ∙ c.if-is_plain.false) (sym c.is_idle.ensures ∙ c.if-is_idle.false)
+    (walk_some c.args.k.now c.args.statement.now.at c.args.statement.now.what c.args.listed.list.conjs c.args.listed.work (sym c.is_plain.ensures ∙ c.if-is_plain.false)
+    (is_busy c.args.k.now c.args.statement.now.at c.args.statement.now.what c.args.listed.list.conjs c.args.listed.work moves)
     c.in_ok-parts.parts.others.items c.in_ok-parts.parts.own.conjs c.in_ok-parts.ensures.others c.in_ok-parts.ensures.own
-    (subst (λ (cs : List Conj). 0 < length cs) c.conjs.ensures.value (some_is c.is_empty.result (length c.conjs.result.now) c.is_empty.ensures c.if-is_empty.false))) c.walk_inside.ensures.ok
+    (some_own c.args.k.now c.args.statement.now.at c.args.statement.now.what c.args.listed.list.conjs c.args.listed.work c.in_ok-parts.parts.own.conjs moves c.in_ok-parts.ensures.own)) c.walk_inside.ensures.ok
 
 pub walk-returns-clause-refused : goal.walk-returns-clause-refused
 walk-returns-clause-refused t c =
+    let moves = sym c.stands_still.ensures ∙ c.if-stands_still.false in
     subst (λ (w : Walked). IfErr c.walk_inside.result (λ f. IsStop w f))
-    (walk_some c.args.k.now c.args.statement.now.at c.args.statement.now.what c.args.listed.list.conjs c.args.listed.work (sym c.is_plain.ensures ∙ c.if-is_plain.false) (sym c.is_idle.ensures ∙ c.if-is_idle.false)
+    (walk_some c.args.k.now c.args.statement.now.at c.args.statement.now.what c.args.listed.list.conjs c.args.listed.work (sym c.is_plain.ensures ∙ c.if-is_plain.false)
+    (is_busy c.args.k.now c.args.statement.now.at c.args.statement.now.what c.args.listed.list.conjs c.args.listed.work moves)
     c.in_ok-parts.parts.others.items c.in_ok-parts.parts.own.conjs c.in_ok-parts.ensures.others c.in_ok-parts.ensures.own
-    (subst (λ (cs : List Conj). 0 < length cs) c.conjs.ensures.value (some_is c.is_empty.result (length c.conjs.result.now) c.is_empty.ensures c.if-is_empty.false))) c.walk_inside.ensures.refused
+    (some_own c.args.k.now c.args.statement.now.at c.args.statement.now.what c.args.listed.list.conjs c.args.listed.work c.in_ok-parts.parts.own.conjs moves c.in_ok-parts.ensures.own)) c.walk_inside.ensures.refused
 
 pub walk_all-walk-requires : goal.walk_all-walk-requires
 walk_all-walk-requires t c = (
