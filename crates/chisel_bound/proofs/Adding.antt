@@ -25,7 +25,8 @@ use Rattle.chisel_bound.specs.declared.bounds.Bounds.{Bounds}
 use Rattle.chisel_bound.specs.declared.bounds.Kept.{Kept}
 use Rattle.chisel_bound.specs.declared.bounds.TheConstants.{MAX_VECTORS}
 use Rattle.chisel_bound.specs.BoundsAt.{bounds_at}
-use Rattle.chisel_bound.specs.Grid.{place, Holds, weighed}
+use Rattle.chisel_table.specs.Grid.{place, Holds}
+use Rattle.chisel_bound.specs.Weights.{weighed}
 use Rattle.chisel_bound.specs.Kept.{bounds_with, bounds_of, added_by, spot, AreAdded, IsKept}
 use Rattle.chisel_bound.specs.Pool.{IsPool}
 use Rattle.chisel_bound.specs.Written.{above, above_in, WritesOptions, WritesVector}

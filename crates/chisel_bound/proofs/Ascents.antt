@@ -16,11 +16,13 @@ use Rattle.chisel_table.specs.Tables.{decision_count, option_count, row_count, e
 use Rattle.chisel_table.specs.Valid.{IsTable}
 use Rattle.chisel_table.proofs.Sums.{by_test, differ, sum_same}
 use Rattle.chisel_table.proofs.Steps.{penalty_part}
-use Rattle.chisel_bound.specs.Grid.{place, Holds, least_place, IsLeastPlace}
+use Rattle.chisel_table.specs.Grid.{place, Holds}
+use Rattle.chisel_bound.specs.Weights.{least_place, IsLeastPlace}
 use Rattle.chisel_bound.specs.Ascent.{greatest_to, first_step, step, cheapest, gap, moved, next_vector, vector_after, pool_rounds, ascended, AreFirstSteps, AreOptions, IsPenaltyGrid, AreCheapest}
 use Rattle.chisel_bound.specs.Pool.{IsPool, BeginsWithZeros}
-use Rattle.chisel_bound.proofs.Lists.{length_listed, listed_at, listed_same, zeros}
-use Rattle.chisel_bound.proofs.Grids.{least_place_is, least_place_agree}
+use Rattle.chisel_bound.proofs.Lists.{length_listed, listed_at, listed_same}
+use Rattle.chisel_table.proofs.Grids.{zeros}
+use Rattle.chisel_bound.proofs.LeastPlaces.{least_place_is, least_place_agree}
 
 -- ---- the spread of energies
 

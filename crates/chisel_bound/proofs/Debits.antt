@@ -9,7 +9,7 @@ use Rattle.chisel_table.specs.Tables.{decision_count, option_count}
 use Rattle.chisel_table.specs.Valid.{IsTable}
 use Rattle.chisel_table.proofs.Sums.{by_test}
 use Rattle.chisel_bound.specs.Columns.{column, AreColumnsTo}
-use Rattle.chisel_bound.specs.Grid.{place}
+use Rattle.chisel_table.specs.Grid.{place}
 
 pub columns_none : (t : Table) → AreColumnsTo t 0 []
 columns_none t = record { size = refl; each = λ d o k m n. absurd (omega arith) }

@@ -1,5 +1,5 @@
 pub mod Lists
-pub mod Grids
+pub mod LeastPlaces
 pub mod Ascents
 pub mod Ranges
 pub mod Adding

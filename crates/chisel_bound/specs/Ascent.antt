@@ -7,7 +7,8 @@ use Rattle.chisel_table.specs.Choices.{spent}
 use Rattle.chisel_table.specs.Lagrangian.{price}
 use Rattle.chisel_table.specs.Sums.{sum_to, least_to, list_to}
 use Rattle.chisel_table.specs.Tables.{decision_count, option_count, row_count, energy_at, budget_at}
-use Rattle.chisel_bound.specs.Grid.{place, least_place, IsLeastPlace}
+use Rattle.chisel_table.specs.Grid.{place}
+use Rattle.chisel_bound.specs.Weights.{least_place, IsLeastPlace}
 
 -- the greatest value of f over the numbers below n, 0 where there is none
 unfoldable pub greatest_to : ℕ → (ℕ → ℕ) → ℕ
@@ -77,7 +78,7 @@ pub record AreOptions (t : Table) (options : List ℕ) : Type 0 where
 
 -- penalties of the options, by decision and option, each in range
 pub record IsPenaltyGrid (t : Table) (grid : List ℕ) : Type 0 where
-  pub size : length grid ≡ MAX_OPTIONS * decision_count t
+  pub size : MAX_OPTIONS * decision_count t ≤ length grid
   pub below : (d o : ℕ) → d < decision_count t → o < option_count t d → slice_index grid (place d o) ≤ 2 ^ 113
 
 -- of each decision the first option of the least price, with the penalties of a grid

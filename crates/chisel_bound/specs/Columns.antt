@@ -4,7 +4,7 @@ use Rattle.chisel_table.specs.declared.table.Table.{Table}
 use Rattle.chisel_table.specs.declared.table.TheConstants.{MAX_OPTIONS}
 use Rattle.chisel_table.specs.Sums.{least_to, list_to}
 use Rattle.chisel_table.specs.Tables.{decision_count, option_count, row_count, spent_at}
-use Rattle.chisel_bound.specs.Grid.{place}
+use Rattle.chisel_table.specs.Grid.{place}
 
 -- what an option spends in row i above the least of its decision
 abbrev pub above_least : Table → ℕ → ℕ → ℕ → ℕ

@@ -20,7 +20,7 @@ use Rattle.chisel_bound.specs.declared.rows.RowSums.{RowSums}
 use Rattle.chisel_bound.specs.declared.keeping.Best.{Best}
 use Rattle.chisel_bound.specs.BoundsAt.{bounds_at}
 use Rattle.chisel_bound.specs.Columns.{AreColumns}
-use Rattle.chisel_bound.specs.Grid.{place}
+use Rattle.chisel_table.specs.Grid.{place}
 use Rattle.chisel_bound.specs.Pool.{IsPool}
 
 -- ---- bounds

@@ -1,5 +1,5 @@
 pub mod Pool
-pub mod Grid
+pub mod Weights
 pub mod Ascent
 pub mod BoundsAt
 pub mod Columns

@@ -7,7 +7,8 @@ use Rattle.chisel_table.specs.Tables.{decision_count, option_count, energy_at}
 use Rattle.chisel_bound.specs.declared.bounds.Bounds.{Bounds}
 use Rattle.chisel_bound.specs.declared.bounds.TheConstants.{MAX_VECTORS}
 use Rattle.chisel_bound.specs.BoundsAt.{bounds_at}
-use Rattle.chisel_bound.specs.Grid.{place, weighed}
+use Rattle.chisel_table.specs.Grid.{place}
+use Rattle.chisel_bound.specs.Weights.{weighed}
 
 -- how far an option's price and penalty lie above the least of its decision
 abbrev pub above : List ℕ → List ℕ → ℕ → Bounds

@@ -11,12 +11,11 @@ ghost use Rattle.chisel_table.specs.Valid.{IsTable};
 ghost use Rattle.chisel_bound.specs.Ascent.{AreCheapest, AreFirstSteps, AreOptions, IsPenaltyGrid, ascended, divisor, moved, next_vector, span, spread, step_for, vector_after};
 ghost use Rattle.chisel_bound.specs.Pool.{BeginsWithZeros, IsPool};
 
-use crate::grid::{least_option, write_penalties};
 use crate::pool::Pool;
-use crate::table::energies_of;
+use crate::weights::least_option;
 use chisel_table::{
     ENERGY_WEIGHT, MAX_DECISIONS, MAX_MULTIPLIER, MAX_OPTIONS, Table, budget_at, decision_count,
-    row_count, spent_at,
+    energies_of, row_count, spent_at, write_penalties,
 };
 use rely_num::List;
 use std::alloc::{AllocError, Global};
@@ -176,7 +175,8 @@ fn span(t: &Table) -> u128
     sum
 }
 
-fn spread(energies: &[u64]) -> u64
+/// How far the energies of one decision's options lie apart.
+pub fn spread(energies: &[u64]) -> u64
     requires { 0 < length energies.now }
     ensures { result ≡ spread (length energies.now) (slice_index energies.now) }
 {

@@ -6,8 +6,7 @@ ghost use Rattle.chisel_table.specs.Tables.{decision_count, option_count};
 ghost use Rattle.chisel_table.specs.Valid.{IsTable};
 ghost use Rattle.chisel_bound.specs.Columns.{AreColumns, AreColumnsTo, column};
 
-use crate::table::debits_of;
-use chisel_table::{MAX_OPTIONS, Table, decision_count, option_count, row_count};
+use chisel_table::{MAX_OPTIONS, Table, debits_of, decision_count, option_count, row_count};
 use rely_num::List;
 use std::alloc::{AllocError, Global};
 

@@ -11,10 +11,12 @@ ghost use Rattle.chisel_bound.specs.Written.{WritesOptions, WritesVector};
 
 use crate::bounds::{Bounds, Kept, MAX_VECTORS};
 use crate::columns::columns;
-use crate::grid::{least_option, weight, write_penalties};
 use crate::pool::Pool;
-use crate::table::energies_of;
-use chisel_table::{ENERGY_WEIGHT, MAX_OPTIONS, Partial, Table, decision_count, excess, value};
+use crate::weights::{least_option, weight};
+use chisel_table::{
+    ENERGY_WEIGHT, MAX_OPTIONS, Partial, Table, decision_count, energies_of, excess, value,
+    write_penalties,
+};
 use rely_num::List;
 use std::alloc::{AllocError, Global};
 

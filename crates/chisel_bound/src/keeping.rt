@@ -1,20 +1,14 @@
 //! The first rule that closes a partial choice, from the bounds and the row sums that a search keeps.
-ghost use Rattle.std.specs.Prelude.{◌≡◌, ◌*◌, ◌<◌, ◌^◌, ◌-ℤ◌, length, slice_index, pos};
+ghost use Rattle.std.specs.Prelude.{◌≡◌, ◌*◌, ◌<◌, ◌^◌, ◌-ℤ◌, length, pos};
 ghost use Rattle.chisel_table.specs.declared.lagrangian.TheConstants.{ENERGY_WEIGHT};
-ghost use Rattle.chisel_table.specs.declared.table.TheConstants.{MAX_DECISIONS};
-ghost use Rattle.chisel_table.specs.Choices.{IsChoice, precedes};
-ghost use Rattle.chisel_table.specs.Partials.{IsPartial, first_option};
 ghost use Rattle.chisel_table.specs.Sums.{first_to};
-ghost use Rattle.chisel_table.specs.Valid.{IsTable};
 ghost use Rattle.chisel_bound.specs.BoundsAt.{has_excess, is_above};
 ghost use Rattle.chisel_bound.specs.Rows.{is_exceeded};
 
 use crate::bounds::Bounds;
 use crate::differences::Differences;
 use crate::rows::RowSums;
-use chisel_table::{
-    Close, CloseRule, ENERGY_WEIGHT, MAX_DECISIONS, Partial, Table, decision_count,
-};
+use chisel_table::{Close, CloseRule, ENERGY_WEIGHT, first_precedes};
 use rely_num::List;
 
 /// The options of the best choice so far, with its energy.
@@ -114,32 +108,4 @@ fn first_value_above(bounds: &[Bounds], limit: i128) -> Option<u32>
         }
     }
     None
-}
-
-// Whether the first completion of a partial choice has options before these.
-fn first_precedes(t: &Table, p: &Partial, options: &[u8]) -> bool
-    requires table { IsTable t.now }
-    requires partial { IsPartial t.now p.now }
-    requires choice { IsChoice t.now options.now }
-    ensures { result ≡ precedes t.now (first_option p.now) (slice_index options.now) }
-{
-    for d in 0..decision_count(t) {
-        let first = first_option(p, d);
-        if first != options[d] {
-            return first < options[d];
-        }
-    }
-    false
-}
-
-// The fixed option of a decision, and the first where none is fixed.
-fn first_option(p: &Partial, decision: usize) -> u8
-    requires { decision < MAX_DECISIONS }
-    ensures { result ≡ first_option p.now decision }
-{
-    if p.is_unfixed(decision) {
-        0
-    } else {
-        p.slots[decision]
-    }
 }

@@ -7,14 +7,13 @@ mod climb;
 mod closing;
 mod columns;
 mod differences;
-mod grid;
 mod keeping;
 mod pool;
 mod rows;
-mod table;
+mod weights;
 
 pub use bounds::{Bounds, Kept, MAX_VECTORS, greatest_value};
-pub use climb::ascent;
+pub use climb::{ascent, spread};
 pub use closing::{closes, options_close};
 pub use differences::Differences;
 pub use keeping::Best;

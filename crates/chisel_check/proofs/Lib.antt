@@ -1,3 +1,4 @@
 pub mod Walks
 pub mod Fits
 pub mod Failing
+pub mod Keeping

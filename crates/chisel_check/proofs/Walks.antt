@@ -1,6 +1,6 @@
 -- The walk finds no failing line exactly where the tree is valid.
-use Rattle.std.proofs.Common.{◌≡◌, ℕ, zero, suc, ◌+◌, Bool, true, false, ◌==◌, List, [], ◌∷◌, length, Result, Ok, Err, Option, if◌then◌else◌, refl, ap, ◌∙◌, sym}
-use Rattle.std.specs.Prelude.{slice_set, slice_index_or, nat_lt, ◌&&◌}
+use Rattle.std.proofs.Common.{◌≡◌, ℕ, ◌+◌, Bool, true, false, ◌==◌, List, [], ◌∷◌, length, Result, Ok, Err, Option, if◌then◌else◌, refl, ap, ◌∙◌, sym}
+use Rattle.std.specs.Prelude.{slice_set, nat_lt, ◌&&◌}
 use Rattle.std.specs.Prelude.{IsOk, ◌↔◌}
 use Rattle.std.specs.Borrow.{Bor}
 use Rattle.std.proofs.lemmas.Bool.{eqb-true, eq-eqb, ltb-true, lt-ltb}
@@ -8,27 +8,18 @@ use Rattle.std.proofs.lemmas.List.{set-set}
 use Rattle.chisel_table.specs.declared.table.Table.{Table}
 use Rattle.chisel_table.specs.declared.partial.Partial.{Partial}
 use Rattle.chisel_table.specs.Tables.{decision_count, option_count}
-use Rattle.chisel_table.specs.Closings.{vector_at}
-use Rattle.chisel_table.specs.Lagrangian.{IsVector}
 use Rattle.chisel_table.specs.Partials.{is_unfixed, with_option}
 use Rattle.chisel_table.proofs.Sums.{both}
 use Rattle.chisel_cert.specs.declared.cert.Mark.{Mark}
 use Rattle.chisel_cert.specs.declared.cert.Node.{Node, Leaf, Branch}
 use Rattle.chisel_cert.specs.Tree.{Tree, leaf, branch, Trees, nil, cons, count, nodes, nodes_of}
 use Rattle.chisel_cert.specs.Valid.{closing_holds, IsValid, AreValid}
-use Rattle.chisel_cert.specs.Node.{closing_of, tree_of, trees_of, vectors_of}
+use Rattle.chisel_cert.specs.Node.{closing_of, tree_of, trees_of}
 use Rattle.chisel_cert.proofs.Nodes.{tree_of-Branch, tree_of-Leaf, count-trees_of}
 use Rattle.chisel_check.specs.declared.node.Failure.{Failure}
 use Rattle.chisel_check.specs.declared.node.CheckWhy.{CheckWhy}
 use Rattle.chisel_check.specs.declared.node.CheckWhy.TheVariants as why
 use Rattle.chisel_check.specs.Walk.{fails, ◌>>=◌, walk, walk_all, ClosingFits, TreeFits, AllFit}
-
--- the vector behind a reference of the pool
-pub vector_behind : (t : Table) (pool : List (Bor (List ℕ))) (j : ℕ) (e : Bor (List ℕ)) → e.now ≡ [] →
-    IsVector t (vector_at (vectors_of pool) j) → IsVector t (slice_index_or pool j e).now
-vector_behind t [] j e q h = rw q h
-vector_behind t (v ∷ vs) zero e q h = h
-vector_behind t (v ∷ vs) (suc j) e q h = vector_behind t vs j e q h
 
 -- what a walk that ends well comes from
 ok_bind : (r : Result ℕ Failure) (f : ℕ → Result ℕ Failure) (y : ℕ) → (r >>= f) ≡ Ok y → (x : ℕ) × (r ≡ Ok x) × (f x ≡ Ok y)

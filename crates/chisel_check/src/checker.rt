@@ -10,6 +10,7 @@ ghost use Rattle.chisel_check.specs.Failures.{IsSized, IsHeaded, AreTold, FailsF
 ghost use Rattle.chisel_table.specs.Least.{IsLeast};
 
 use crate::node::{Answer, CheckWhy, Failure, check_node};
+use crate::prices::{Priced, kept_pool};
 use chisel_cert::{Cert, Restated};
 use chisel_table::{
     Partial, Table, budget_at, decision_count, is_choice, options_energy, options_meet,
@@ -119,8 +120,10 @@ fn check_tree(t: &Table, c: &Cert<'_>) -> Result<(), Failure>
     ensures err { IfErr result (λ e. tree_walk t.now c.now ≡ Err e) }
 {
     let line = c.restated.len() as u32 + c.pool.len() as u32 + FIRST_ROOT_LINE;
+    let prices = &kept_pool(t, c.pool);
+    let cert = Priced { cert: c, prices };
     let mut p = Partial::nothing_fixed(t);
-    match check_node(t, c, &c.root, &mut p, line) {
+    match check_node(t, &cert, &c.root, &mut p, line) {
         Ok(_) => Ok(()),
         Err(failure) => Err(failure),
     }

@@ -3,6 +3,7 @@
 
 mod checker;
 mod node;
+mod prices;
 
 pub use checker::check;
 pub use node::{Answer, CheckWhy};

@@ -5,9 +5,11 @@ ghost use Rattle.chisel_table.specs.Tables.{decision_count};
 ghost use Rattle.chisel_table.specs.Valid.{IsTable};
 ghost use Rattle.chisel_cert.specs.Tree.{nodes};
 ghost use Rattle.chisel_cert.specs.Node.{closing_of, tree_of};
-ghost use Rattle.chisel_check.specs.Walk.{mark_holds, node_walk, CertFits, ClosingFits, TreeFits};
+ghost use Rattle.chisel_check.specs.Prices.{IsPriced};
+ghost use Rattle.chisel_check.specs.Walk.{mark_holds, node_walk, ClosingFits, TreeFits};
 
-use chisel_cert::{Cert, Mark, Node};
+use crate::prices::{Priced, kept_closes};
+use chisel_cert::{Mark, Node};
 use chisel_table::{
     CloseRule, Partial, Table, UNFIXED, decision_count, option_count, row_closes, row_count,
     vector_closes,
@@ -47,12 +49,12 @@ pub enum Answer {
 }
 
 /// Whether the rule of a leaf holds.
-fn mark_holds(t: &Table, c: &Cert<'_>, p: &Partial, mark: Mark<'_>) -> bool
+fn mark_holds(t: &Table, c: &Priced<'_>, p: &Partial, mark: Mark<'_>) -> bool
     requires table { IsTable t.now }
-    requires cert { CertFits t.now c.now }
+    requires cert { IsPriced t.now c.now }
     requires partial { IsPartial t.now p.now }
     requires mark { ClosingFits t.now (closing_of mark) }
-    ensures { result ≡ mark_holds t.now c.now p.now mark.entry }
+    ensures { result ≡ mark_holds t.now c.now.cert.now p.now mark.entry }
 {
     match mark {
         Mark::Pool(close) => match close.rule {
@@ -60,11 +62,11 @@ fn mark_holds(t: &Table, c: &Cert<'_>, p: &Partial, mark: Mark<'_>) -> bool
                 (close.index as usize) < row_count(t) && row_closes(t, close.index, p)
             }
             rule => {
-                (close.index as usize) < c.pool.len()
-                    && vector_closes(t, c.pool[close.index as usize], p, c.choice, rule)
+                (close.index as usize) < c.cert.pool.len()
+                    && kept_closes(t, &c.prices[close.index as usize], p, c.cert.choice, rule)
             }
         },
-        Mark::Own(rule, l) => vector_closes(t, l, p, c.choice, rule),
+        Mark::Own(rule, l) => vector_closes(t, l, p, c.cert.choice, rule),
     }
 }
 
@@ -80,17 +82,17 @@ fn is_open(t: &Table, p: &Partial, decision: u32) -> bool
 #[tactic(auto, using(crate::proofs::Walks::walks))]
 pub(crate) fn check_node(
     t: &Table,
-    c: &Cert<'_>,
+    c: &Priced<'_>,
     node: &Node<'_>,
     p: &mut Partial,
     line: u32,
 ) -> Result<u32, Failure>
     requires table { IsTable t.now }
-    requires cert { CertFits t.now c.now }
+    requires cert { IsPriced t.now c.now }
     requires partial { IsPartial t.now p.old }
     requires fits { TreeFits t.now (tree_of node.now) }
     requires lines { line + nodes (tree_of node.now) < 2 ^ 32 }
-    ensures walk { result ≡ node_walk t.now c.now p.old node.now line }
+    ensures walk { result ≡ node_walk t.now c.now.cert.now p.old node.now line }
     ensures counted { IfOk result (λ after. after ≡ line + nodes (tree_of node.now)) }
     ensures restored { OnOk result (p.new ≡ p.old) }
 {

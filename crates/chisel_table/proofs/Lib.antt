@@ -6,3 +6,5 @@ pub mod Relaxation
 pub mod Closings
 pub mod Fixings
 pub mod Steps
+pub mod Grids
+mod Examples

@@ -1,6 +1,7 @@
 pub mod Choices
 pub mod Closings
 pub mod Fixing
+pub mod Grid
 pub mod Lagrangian
 pub mod Least
 pub mod Partials

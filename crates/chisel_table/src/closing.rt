@@ -1,6 +1,6 @@
 //! The rules that close a partial choice: with a row, and with a vector of multipliers.
 //! No pool stands here, so that a search and a checker may keep their vectors each in its own way.
-ghost use Rattle.std.specs.Prelude.{◌≡◌, ◌<◌, ◌≤◌, ◌*◌, option_copied, pos, slice_index};
+ghost use Rattle.std.specs.Prelude.{◌≡◌, ◌<◌, ◌*◌, option_copied, pos, slice_index};
 ghost use Rattle.chisel_table.specs.declared.lagrangian.TheConstants.{ENERGY_WEIGHT};
 ghost use Rattle.chisel_table.specs.declared.table.TheConstants.{MAX_DECISIONS};
 ghost use Rattle.chisel_table.specs.Choices.{IsChoice, energy, precedes};
@@ -87,8 +87,8 @@ fn weighted_energy(t: &Table, options: &[u8]) -> i128
     ENERGY_WEIGHT as i128 * options_energy(t, options) as i128
 }
 
-// Whether option 0 of each unfixed decision, with the fixed options, precedes the choice.
-fn first_precedes(t: &Table, p: &Partial, options: &[u8]) -> bool
+/// Whether option 0 of each unfixed decision, with the fixed options, precedes the choice.
+pub fn first_precedes(t: &Table, p: &Partial, options: &[u8]) -> bool
     requires table { IsTable t.now }
     requires partial { IsPartial t.now p.now }
     requires choice { IsChoice t.now options.now }

@@ -155,8 +155,8 @@ fn least_spent(t: &Table, row: usize, p: &Partial, decision: usize) -> u64
     least
 }
 
-// The budgets, each times the multiplier of its row.
-fn allowance(t: &Table, l: &[u64]) -> i128
+/// The budgets, each times the multiplier of its row.
+pub fn allowance(t: &Table, l: &[u64]) -> i128
     requires table { IsTable t.now }
     requires vector { IsVector t.now l.now }
     ensures value { result ≡ allowance t.now l.now }

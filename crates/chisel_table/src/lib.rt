@@ -7,6 +7,7 @@
 
 mod choice;
 mod closing;
+mod grid;
 mod lagrangian;
 mod law;
 mod partial;
@@ -15,14 +16,17 @@ mod table;
 pub use choice::{
     Choice, before, energy, is_choice, meets, options_energy, options_meet, options_spent,
 };
-pub use closing::{Close, CloseRule, row_closes, vector_closes};
-pub use lagrangian::{ENERGY_WEIGHT, MAX_MULTIPLIER, excess, penalty, price, row_excess, value};
+pub use closing::{Close, CloseRule, first_precedes, row_closes, vector_closes};
+pub use grid::write_penalties;
+pub use lagrangian::{
+    ENERGY_WEIGHT, MAX_MULTIPLIER, allowance, excess, penalty, price, row_excess, value,
+};
 pub use law::{
     better_closes, choices_are_ordered, first_closes, fixing_divides, fixing_grows_bounds,
     relaxation_is_bound, rules_are_sound,
 };
 pub use partial::{Partial, UNFIXED};
 pub use table::{
-    MAX_DECISIONS, MAX_OPTIONS, MAX_ROWS, Row, Table, budget_at, decision_count, energy_at,
-    option_count, row_count, spent_at,
+    MAX_DECISIONS, MAX_OPTIONS, MAX_ROWS, Row, Table, budget_at, debits_of, decision_count,
+    energies_of, energy_at, option_count, row_count, spent_at,
 };

@@ -9,7 +9,7 @@ use crate::table::{MAX_DECISIONS, Table, decision_count};
 pub const UNFIXED: u8 = 255;
 
 /// A partial choice: for each of `size` decisions the option that is fixed, or `UNFIXED`.
-#[derive(Clone, Copy)]
+#[derive(Clone, Copy, Debug, PartialEq, Eq)]
 pub struct Partial {
     pub size: u32,
     pub slots: [u8; MAX_DECISIONS],

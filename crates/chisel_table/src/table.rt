@@ -1,6 +1,6 @@
 //! What a table has at a decision, an option and a row.
-ghost use Rattle.std.specs.Prelude.{◌≡◌, ◌<◌};
-ghost use Rattle.chisel_table.specs.Tables.{decision_count, option_count, row_count, energy_at, budget_at, spent_at};
+ghost use Rattle.std.specs.Prelude.{◌≡◌, ◌<◌, [], slice_index_or};
+ghost use Rattle.chisel_table.specs.Tables.{decision_count, option_count, row_count, row_at, energy_at, budget_at, spent_at};
 ghost use Rattle.chisel_table.specs.Valid.{IsTable};
 
 use rely_num::List;
@@ -80,4 +80,22 @@ pub fn spent_at(t: &Table, row: usize, decision: usize, option: usize) -> u64
     ensures { result ≡ spent_at t.now row decision option }
 {
     t.rows.as_slice()[row].spent.as_slice()[decision].as_slice()[option]
+}
+
+/// The energies of a decision's options.
+pub fn energies_of(t: &Table, decision: usize) -> &[u64]
+    requires { decision < decision_count t.now }
+    ensures { result.now ≡ slice_index_or t.now.energies decision [] }
+{
+    t.energies.as_slice()[decision].as_slice()
+}
+
+/// What a decision's options spend in a row.
+pub fn debits_of(t: &Table, row: usize, decision: usize) -> &[u64]
+    requires table { IsTable t.now }
+    requires row { row < row_count t.now }
+    requires decision { decision < decision_count t.now }
+    ensures { result.now ≡ slice_index_or (row_at t.now row).spent decision [] }
+{
+    t.rows.as_slice()[row].spent.as_slice()[decision].as_slice()
 }

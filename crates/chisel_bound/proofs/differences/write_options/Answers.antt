@@ -6,9 +6,9 @@ use mir.Syntax.{w128}
 use mir.Val.{to_z}
 use Rattle.chisel_table.specs.declared.lagrangian.TheConstants.{ENERGY_WEIGHT}
 use Rattle.chisel_table.specs.Sums.{least_to}
-use Rattle.chisel_bound.specs.Grid.{weighed}
+use Rattle.chisel_bound.specs.Weights.{weighed}
 use Rattle.chisel_bound.proofs.Adding.{least_agree, options_more}
-use Rattle.chisel_bound.proofs.Grids.{least_value}
+use Rattle.chisel_bound.proofs.LeastPlaces.{least_value}
 use Rattle.chisel_bound.proofs.differences.write_options.Goals as goal
 
 pub loop-o-preserved : goal.loop-o-preserved

@@ -21,8 +21,8 @@ loop-k-init t c =
     let table = c.args.t.now in
     let d = c.in-Branch.decision in
     let kids = c.in-Branch.children in
-    let pool = vectors_of c.args.c.now.pool.now in
-    let choice = option_copied c.args.c.now.choice in
+    let pool = vectors_of c.args.c.now.cert.now.pool.now in
+    let choice = option_copied c.args.c.now.cert.now.choice in
     let start = c.args.p.now in
     let free : (nat_lt d (decision_count table) && is_unfixed start d) ≡ true = sym c.is_open.ensures ∙ c.if-not-is_open.false in
     let many : length kids.now ≡ option_count table d = c.if-children-option_count.false ∙ c.option_count.ensures in
@@ -71,8 +71,8 @@ loop-k-preserved t c =
     let start = c.args.p.now in
     let rest = drop (c.loop-k.k + 1) kids in
     let child = c.child-item.result in
-    let pool = vectors_of c.args.c.now.pool.now in
-    let choice = option_copied c.args.c.now.choice in
+    let pool = vectors_of c.args.c.now.cert.now.pool.now in
+    let choice = option_copied c.args.c.now.cert.now.choice in
     let cut = drop_more kids c.loop-k.k child c.loop-k-test.true ∙ ap (λ n. n ∷ rest) (sym c.child-item.is) in
     record {
       alike = rw c.in_ok-next-in-Branch.ensures.restored (alike_after c.loop-k.p start d c.loop-k.k c.loop-k.invariant.alike);
@@ -90,8 +90,8 @@ returns-in_err-next-in-Branch-clause-walk t c =
     let start = c.args.p.now in
     let rest = drop (c.loop-k.k + 1) kids in
     let child = c.child-item.result in
-    let pool = vectors_of c.args.c.now.pool.now in
-    let choice = option_copied c.args.c.now.choice in
+    let pool = vectors_of c.args.c.now.cert.now.pool.now in
+    let choice = option_copied c.args.c.now.cert.now.choice in
     let cut = drop_more kids c.loop-k.k child c.loop-k-test.true ∙ ap (λ n. n ∷ rest) (sym c.child-item.is) in
     let w = walk_next table pool choice start c.loop-k.p d c.loop-k.k c.loop-k.next child (drop c.loop-k.k kids) rest _ cut c.loop-k.invariant.alike c.check_node.ensures.walk in
     let v : c.check_node.result ≡ Err c.in_err-next-in-Branch.field-0.0 = c.in_err-next-in-Branch.was in
@@ -103,8 +103,8 @@ pub returns-after-loop-k-clause-walk : goal.returns-after-loop-k-clause-walk
 returns-after-loop-k-clause-walk t c =
     let kids = c.in-Branch.children.now in
     let none = drop_all c.loop-k.k kids (omega arith) in
-    let pool = vectors_of c.args.c.now.pool.now in
-    let choice = option_copied c.args.c.now.choice in
+    let pool = vectors_of c.args.c.now.cert.now.pool.now in
+    let choice = option_copied c.args.c.now.cert.now.choice in
     sym (walk_none c.args.t.now pool choice c.args.p.now c.in-Branch.decision c.loop-k.k c.loop-k.next)
     ∙ sym (ap (λ ns. walk_all c.args.t.now pool choice c.args.p.now c.in-Branch.decision c.loop-k.k (trees_of ns) c.loop-k.next) none)
     ∙ c.loop-k.invariant.same

@@ -14,6 +14,6 @@ invariant-loop-k l = record {
   alike : Alike l.p l.initial.p l.d;
   fits : AllFit l.t (trees_of (drop l.k l.child-items));
   lines : l.next + nodes_of (trees_of (drop l.k l.child-items)) ≡ l.line + nodes (tree_of l.node);
-  same : walk_all l.t (vectors_of l.c.pool.now) (option_copied l.c.choice) l.initial.p l.d l.k (trees_of (drop l.k l.child-items)) l.next
-      ≡ walk l.t (vectors_of l.c.pool.now) (option_copied l.c.choice) l.initial.p (tree_of l.node) l.line;
+  same : walk_all l.t (vectors_of l.c.cert.now.pool.now) (option_copied l.c.cert.now.choice) l.initial.p l.d l.k (trees_of (drop l.k l.child-items)) l.next
+      ≡ walk l.t (vectors_of l.c.cert.now.pool.now) (option_copied l.c.cert.now.choice) l.initial.p (tree_of l.node) l.line;
 }

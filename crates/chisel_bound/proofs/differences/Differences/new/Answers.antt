@@ -21,7 +21,7 @@ loop-j-preserved c =
     let e = c.as_slice-in-loop-j.ensures ∙ vector_read pool c.as_slice.result.now c.loop-j.j c.index-as_slice-j.result c.as_slice.ensures (omega arith) c.index-as_slice-j.is in
     let g = c.deref.ensures.value ∙ take_at c.write_penalties.new.grid (drop (length c.write_penalties.new.grid) c.loop-j.grid.items) c.loop-j.grid.len (omega (arith, c.write_penalties.auto.grid, c.deref_mut.ensures.len)) in
     record {
-      grid = ap length (take_at c.write_penalties.new.grid (drop (length c.write_penalties.new.grid) c.loop-j.grid.items) c.loop-j.grid.len (omega (arith, c.write_penalties.auto.grid, c.deref_mut.ensures.len))) ∙ c.write_penalties.ensures.size;
+      grid = omega (arith, ap length (take_at c.write_penalties.new.grid (drop (length c.write_penalties.new.grid) c.loop-j.grid.items) c.loop-j.grid.len (omega (arith, c.write_penalties.auto.grid, c.deref_mut.ensures.len))), c.write_penalties.ensures.size);
       added =
           rw (take_at c.write_vector.new.added (drop (length c.write_vector.new.added) c.loop-j.added.items) c.loop-j.added.len (omega (arith, c.write_vector.auto.added, c.deref_mut-in-loop-j.ensures.len)))
           (added_more t pool c.deref.result.now c.loop-j.j c.deref_mut-in-loop-j.result.now c.write_vector.new.added (omega (arith, c.requires.few))

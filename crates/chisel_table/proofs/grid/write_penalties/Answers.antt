@@ -1,14 +1,13 @@
 use Rattle.std.proofs.Common.{arith, rules, ap, ◌∙◌, length}
 use Rattle.std.specs.Prelude.{slice_index}
-use Rattle.chisel_bound.proofs.Lists.{zeros}
-use Rattle.chisel_bound.proofs.Grids.{grid_zeros, row_without}
-use Rattle.chisel_bound.proofs.grid.write_penalties.Goals as goal
-use Rattle.chisel_bound.proofs.grid.write_penalties.Goals.{then-l-i-gt0, else-l-i-gt0}
+use Rattle.chisel_table.proofs.Grids.{zeros, grid_zeros, row_without}
+use Rattle.chisel_table.proofs.grid.write_penalties.Goals as goal
+use Rattle.chisel_table.proofs.grid.write_penalties.Goals.{then-l-i-gt0, else-l-i-gt0}
 
 pub loop-i-init : goal.loop-i-init
 loop-i-init c =
     let e = c.fill.ensures.after (λ y h. search rules) in
-    grid_zeros c.args.t.now c.args.l.now c.fill.new.self (c.fill.ensures.len ∙ c.requires.size)
+    grid_zeros c.args.t.now c.args.l.now c.fill.new.self (let a = c.fill.ensures.len in let b = c.requires.size in omega arith)
     (λ k. ap (λ xs. slice_index xs k) e ∙ zeros (length c.args.grid.now) k)
 
 pub loop-i-preserved : goal.loop-i-preserved

@@ -1,5 +1,5 @@
-use Rattle.chisel_bound.specs.Grid.{IsLeastPlace, weighed}
-use Rattle.chisel_bound.proofs.grid.least_option.Given as goal
+use Rattle.chisel_bound.specs.Weights.{IsLeastPlace, weighed}
+use Rattle.chisel_bound.proofs.weights.least_option.Given as goal
 
 abbrev pub invariant-loop-o : goal.invariant-loop-o
 invariant-loop-o l = IsLeastPlace l.o (weighed l.scale l.energies l.penalties) l.least

@@ -1,6 +1,6 @@
 use Rattle.std.proofs.Common.{arith}
-use Rattle.chisel_bound.proofs.Grids.{adds_none, adds_more, adds_all}
-use Rattle.chisel_bound.proofs.grid.add_multiples.Goals as goal
+use Rattle.chisel_table.proofs.Grids.{adds_none, adds_more, adds_all}
+use Rattle.chisel_table.proofs.grid.add_multiples.Goals as goal
 
 pub loop-o-init : goal.loop-o-init
 loop-o-init c = adds_none c.args.grid.now c.args.spent.now c.args.from c.args.multiplier

@@ -1,8 +1,8 @@
 -- A grid: a number for each option of each decision.
-use Rattle.std.specs.Prelude.{ℕ, ◌≡◌, ◌+◌, ◌*◌, ◌<◌, ◌≤◌, List, length, slice_index, unwrap_or, ◌==◌}
+use Rattle.std.specs.Prelude.{ℕ, ◌≡◌, ◌+◌, ◌*◌, ◌<◌, ◌≤◌, List, length, slice_index}
 use Rattle.chisel_table.specs.declared.table.Table.{Table}
 use Rattle.chisel_table.specs.declared.table.TheConstants.{MAX_OPTIONS}
-use Rattle.chisel_table.specs.Sums.{sum_to, least_to, first_to}
+use Rattle.chisel_table.specs.Sums.{sum_to}
 use Rattle.chisel_table.specs.Tables.{decision_count, option_count, spent_at}
 
 -- the place of option o of decision d
@@ -11,7 +11,7 @@ place d o = MAX_OPTIONS * d + o
 
 -- the grid has f of each decision and option
 pub record Holds (t : Table) (f : ℕ → ℕ → ℕ) (grid : List ℕ) : Type 0 where
-  pub size : length grid ≡ MAX_OPTIONS * decision_count t
+  pub size : MAX_OPTIONS * decision_count t ≤ length grid
   pub each : (d o : ℕ) → d < decision_count t → o < option_count t d → slice_index grid (place d o) ≡ f d o
 
 -- what an option spends in the first n rows, each debit times the row's multiplier
@@ -28,17 +28,3 @@ pub record Adds (old : List ℕ) (from multiplier : ℕ) (spent new : List ℕ) 
   pub added : (o : ℕ) → o < length spent → slice_index new (from + o) ≡ slice_index old (from + o) + multiplier * slice_index spent o
   pub before : (k : ℕ) → k < from → slice_index new k ≡ slice_index old k
   pub behind : (k : ℕ) → from + length spent ≤ k → slice_index new k ≡ slice_index old k
-
--- an option's energy, times a scale, and its penalty
-abbrev pub weighed : ℕ → List ℕ → List ℕ → ℕ → ℕ
-weighed scale energies penalties o = scale * slice_index energies o + slice_index penalties o
-
--- the first number below n at which f is least
-abbrev pub least_place : ℕ → (ℕ → ℕ) → ℕ
-least_place n f = unwrap_or (first_to n (λ k. f k == least_to n f)) 0
-
--- k is that number
-pub record IsLeastPlace (n : ℕ) (f : ℕ → ℕ) (k : ℕ) : Type 0 where
-  pub inside : k < n
-  pub least : (j : ℕ) → j < n → f k ≤ f j
-  pub first : (j : ℕ) → j < k → f k < f j

@@ -1,6 +1,6 @@
 use Rattle.std.proofs.Common.{arith, rules}
-use Rattle.chisel_bound.proofs.Grids.{half_none, half_room, half_more, half_all}
-use Rattle.chisel_bound.proofs.grid.add_row.Goals as goal
+use Rattle.chisel_table.proofs.Grids.{half_none, half_room, half_more, half_all}
+use Rattle.chisel_table.proofs.grid.add_row.Goals as goal
 
 pub loop-d-init : goal.loop-d-init
 loop-d-init c = half_none c.args.t.now c.args.l.now c.args.row c.args.grid.now c.requires.grid

@@ -1,17 +1,16 @@
--- Grids of penalties, and the first place of the least of some numbers.
-use Rattle.std.proofs.Common.{◌≡◌, ◌≢◌, ℕ, zero, suc, ◌+◌, ◌*◌, ◌≤◌, ◌<◌, List, [], length, get_or, set, take, refl, sym, ap, ◌∙◌, arith, add-one}
-use Rattle.std.specs.Prelude.{slice_index, slice_index_or, ◌==◌, ◌^◌, unwrap_or}
-use Rattle.std.proofs.lemmas.Bool.{eqb-true, eq-eqb, ne_eqb}
+-- Grids of penalties: a row is added to what the options spend.
+use Rattle.std.proofs.Common.{◌≡◌, ◌≢◌, ℕ, zero, suc, ◌+◌, ◌*◌, ◌≤◌, ◌<◌, List, [], length, get_or, set, take, replicate, refl, sym, ap, ◌∙◌, arith}
+use Rattle.std.specs.Prelude.{slice_index, slice_index_or, ◌==◌, ◌^◌}
+use Rattle.std.proofs.lemmas.Bool.{eqb-true}
 use Rattle.std.proofs.lemmas.List.{get_or-set_same, get_or-set_other, get_or-take, length-take-le, take_all}
 use Rattle.chisel_table.specs.declared.table.Table.{Table}
 use Rattle.chisel_table.specs.declared.table.TheConstants.{MAX_OPTIONS}
+use Rattle.chisel_table.specs.Grid.{place, Holds, penalty_to, HasRoom, Adds}
 use Rattle.chisel_table.specs.Lagrangian.{IsVector}
-use Rattle.chisel_table.specs.Sums.{least_to}
 use Rattle.chisel_table.specs.Tables.{decision_count, option_count, row_count, row_at, spent_at}
 use Rattle.chisel_table.specs.Valid.{IsTable}
-use Rattle.chisel_table.proofs.Sums.{by_test, differ, sum_none, sum_more, first_is, least_below, least_more, least_one}
+use Rattle.chisel_table.proofs.Sums.{by_test, differ, sum_none, sum_more}
 use Rattle.chisel_table.proofs.Steps.{penalty_part}
-use Rattle.chisel_bound.specs.Grid.{place, Holds, penalty_to, HasRoom, Adds, least_place, IsLeastPlace}
 
 -- ---- multiples are added
 
@@ -60,7 +59,7 @@ adds_fits old new spent from m o limit l r h =
 
 -- the options of the first d decisions have what they spend in the row, and the others don't
 pub record HalfAdded (t : Table) (l : List ℕ) (row d : ℕ) (grid : List ℕ) : Type 0 where
-  pub size : length grid ≡ MAX_OPTIONS * decision_count t
+  pub size : MAX_OPTIONS * decision_count t ≤ length grid
   pub done : (e o : ℕ) → e < d → e < decision_count t → o < option_count t e → slice_index grid (place e o) ≡ penalty_to t l (row + 1) e o
   pub left : (e o : ℕ) → d ≤ e → e < decision_count t → o < option_count t e → slice_index grid (place e o) ≡ penalty_to t l row e o
 
@@ -97,7 +96,7 @@ module _ (t : Table) (l : List ℕ) (row d : ℕ) (grid spent : List ℕ) (table
 
   pub half_more : (new : List ℕ) → length new ≡ length grid → Adds grid (MAX_OPTIONS * d) (slice_index l row) spent new → HalfAdded t l row (d + 1) new
   half_more new even a = record {
-    size = even ∙ h.size;
+    size = let a = h.size in omega arith;
     done = λ e o m n q. by_test (e == d)
         (λ z. let w = eqb-true e d z in
         rw w (
@@ -125,74 +124,16 @@ row_without t l row grid z h = record {
       omega (arith, a, b, c);
 }
 
+-- zeros, and nothing past them
+pub zeros : (n i : ℕ) → ◌≡◌ {A = ℕ} (get_or (replicate n 0) i 0) 0
+zeros zero i = refl
+zeros (suc n) zero = refl
+zeros (suc n) (suc i) = zeros n i
+
 -- a grid of zeros
-pub grid_zeros : (t : Table) (l grid : List ℕ) → length grid ≡ MAX_OPTIONS * decision_count t → ((k : ℕ) → slice_index grid k ≡ 0) →
+pub grid_zeros : (t : Table) (l grid : List ℕ) → MAX_OPTIONS * decision_count t ≤ length grid → ((k : ℕ) → slice_index grid k ≡ 0) →
     Holds t (penalty_to t l 0) grid
 grid_zeros t l grid e z = record {
   size = e;
   each = λ d o k m. z (place d o) ∙ sym (sum_none (λ i. slice_index l i * spent_at t i d o));
-}
-
--- ---- the first place of the least
-
-least_taken : (n : ℕ) (f : ℕ → ℕ) (k : ℕ) → k < n → ((j : ℕ) → j < n → f k ≤ f j) → f k ≤ least_to n f
-least_taken n f k l h = go n (omega arith) (λ j m. h j m)
-  where
-    go : (m : ℕ) → 1 ≤ m → ((j : ℕ) → j < m → f k ≤ f j) → f k ≤ least_to m f
-    go zero q g = absurd (omega arith)
-    go (suc m) q g = by_test (m == 0)
-        (λ e. let w = eqb-true m 0 e in rw (w, least_one f) (g 0 (omega arith)))
-        (λ e. let ne : m ≢ 0 = differ m 0 e in
-        let a = least_more m f (omega arith) in
-        let b = go m (omega arith) (λ j x. g j (omega arith)) in
-        let c = g m (omega arith) in
-        rw (← add-one) (omega (arith, a, b, c)))
-
--- the least value is that at its place
-pub least_value : (n : ℕ) (f : ℕ → ℕ) (k : ℕ) → IsLeastPlace n f k → f k ≡ least_to n f
-least_value n f k h =
-    let a = least_below n f k h.inside in
-    let b = least_taken n f k h.inside h.least in
-    omega arith
-
-pub least_place_is : (n : ℕ) (f : ℕ → ℕ) (k : ℕ) → IsLeastPlace n f k → least_place n f ≡ k
-least_place_is n f k h =
-    ap (λ r. unwrap_or r 0)
-    (first_is n (λ j. f j == least_to n f) k h.inside (eq-eqb (f k) (least_to n f) (least_value n f k h))
-    (λ j l. ne_eqb (f j) (least_to n f) (λ e. let a = h.first j l in let b = least_value n f k h in absurd (omega arith))))
-
--- of functions that agree
-pub least_place_agree : (n : ℕ) (f g : ℕ → ℕ) (k : ℕ) → ((j : ℕ) → j < n → f j ≡ g j) → IsLeastPlace n f k → IsLeastPlace n g k
-least_place_agree n f g k e h =
-    let i = h.inside in
-    record {
-      inside = i;
-      least = λ j l. let a = e k i in let b = e j l in let c = h.least j l in omega arith;
-      first = λ j l. let a = e k i in let b = e j (omega arith) in let c = h.first j l in omega arith;
-    }
-
--- one number more
-pub least_place_keeps : (n : ℕ) (f : ℕ → ℕ) (k : ℕ) → f k ≤ f n → IsLeastPlace n f k → IsLeastPlace (n + 1) f k
-least_place_keeps n f k l h = record {
-  inside = let a = h.inside in omega arith;
-  least = λ j m. by_test (j == n)
-      (λ e. let w = eqb-true j n e in rw w l)
-      (λ e. let ne : j ≢ n = differ j n e in h.least j (omega arith));
-  first = h.first;
-}
-
-pub least_place_takes : (n : ℕ) (f : ℕ → ℕ) (k : ℕ) → f n < f k → IsLeastPlace n f k → IsLeastPlace (n + 1) f n
-least_place_takes n f k l h = record {
-  inside = omega arith;
-  least = λ j m. by_test (j == n)
-      (λ e. let w = eqb-true j n e in rw w (omega arith))
-      (λ e. let ne : j ≢ n = differ j n e in let a = h.least j (omega arith) in omega arith);
-  first = λ j m. let a = h.least j m in omega arith;
-}
-
-pub least_place_one : (f : ℕ → ℕ) → IsLeastPlace 1 f 0
-least_place_one f = record {
-  inside = omega arith;
-  least = λ j m. let e : j ≡ 0 = omega arith in rw e (omega arith);
-  first = λ j m. absurd (omega arith);
 }
