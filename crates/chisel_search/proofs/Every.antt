@@ -34,7 +34,7 @@ other o n l = by_test (o == n) (λ e. absurd (let q = eqb-true o n e in omega ar
 
 module _ (t : Table) (pool : List (List ℕ)) (Answers : Partial → ℕ → Type 0) (Picks : List Part → ℕ → Type 0) (zs : BeginsWithZeros pool) where
   -- a step leaves a best choice that is as good
-  good_after : (s : Search) (k : ℕ) (p : Partial) (d : ℕ) (f : Fate) → fate t pool s.best p ≡ f → IsAsGood t (after t s k p d f).best s.best
+  pub good_after : (s : Search) (k : ℕ) (p : Partial) (d : ℕ) (f : Fate) → fate t pool s.best p ≡ f → IsAsGood t (after t s k p d f).best s.best
   good_after s k p d closed e = as_good_itself t s.best
   good_after s k p d complete e = let w = fate_complete _ _ e in go s.best w.0
     where
@@ -128,7 +128,7 @@ module _ (t : Table) (pool : List (List ℕ)) (Answers : Partial → ℕ → Typ
         go None e = absurd (let w = h.holds in let v = first_close_none t pool best p e h.rule h.index in cc)
 
     -- what was the best choice once closes with the last one
-    once_best : (p : Partial) → unfixed t p ≡ 0 → IsAsGood t best (Some (choice_of t p)) → first_close t pool best p ≡ None → ⊥
+    pub once_best : (p : Partial) → unfixed t p ≡ 0 → IsAsGood t best (Some (choice_of t p)) → first_close t pool best p ≡ None → ⊥
     once_best p z g e = go best g e
       where
         go : (b : Option (List ℕ)) → IsAsGood t b (Some (choice_of t p)) → first_close t pool b p ≡ None → ⊥

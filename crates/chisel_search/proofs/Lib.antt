@@ -5,3 +5,8 @@ pub mod Ends
 pub mod Printed
 pub mod Every
 pub mod Once
+pub mod Numbered
+pub mod Logs
+pub mod Folding
+pub mod Machines
+pub mod Finding

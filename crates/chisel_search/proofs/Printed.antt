@@ -48,7 +48,7 @@ unfolding trees_to count
 count_to zero f = refl
 count_to (suc n) f = let a = count_to n (λ o. f (suc o)) in omega arith
 
-sum_first : (n : ℕ) (f : ℕ → ℕ) → sum_to (suc n) f ≡ f 0 + sum_to n (λ k. f (suc k))
+pub sum_first : (n : ℕ) (f : ℕ → ℕ) → sum_to (suc n) f ≡ f 0 + sum_to n (λ k. f (suc k))
 unfolding sum_to
 sum_first zero f = omega arith
 sum_first (suc n) f = let a = sum_first n f in omega arith
