@@ -1,0 +1,45 @@
+//! Picks: which open part a search takes next.
+ghost use Rattle.std.specs.Prelude.{◌≡◌, ◌<◌, int_lt, length};
+ghost use Rattle.chisel_orders.specs.declared.picking.Order.TheVariants.{Best, Deep};
+ghost use Rattle.chisel_orders.specs.Picking.{place};
+
+use chisel_search::Part;
+
+/// In which order open parts are taken.
+#[derive(Clone, Copy, Debug, PartialEq, Eq)]
+pub enum Order {
+    /// Depth first: the last part of the list.
+    Deep,
+    /// Best first: the first of the parts with the least value.
+    Best,
+}
+
+/// The last place of a list.
+pub fn deep(parts: &[Part]) -> usize
+    requires { 0 < length parts.now }
+    ensures inside { result < length parts.now }
+    ensures place { result ≡ place Deep parts.now }
+{
+    parts.len() - 1
+}
+
+/// The first place of the least value.
+pub fn least(parts: &[Part]) -> usize
+    requires { 0 < length parts.now }
+    ensures inside { result < length parts.now }
+    ensures place { result ≡ place Best parts.now }
+{
+    let mut least = 0;
+    for k in 1..parts.len() {
+        if is_less(&parts[k], &parts[least]) {
+            least = k;
+        }
+    }
+    least
+}
+
+fn is_less(part: &Part, other: &Part) -> bool
+    ensures { result ≡ int_lt part.now.value other.now.value }
+{
+    part.value < other.value
+}
