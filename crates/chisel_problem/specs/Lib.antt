@@ -1,0 +1,9 @@
+pub mod Uses
+pub mod Places
+pub mod Capped
+pub mod Energies
+pub mod Spending
+pub mod Problem
+pub mod Refusals
+pub mod Promises
+pub mod Least

@@ -1,0 +1,67 @@
+ghost use Rattle.std.specs.Prelude.{◌≡◌, ◌++◌, ◌<◌, ◌^◌, IfOk, OnOk, length};
+ghost use Rattle.std.specs.List.{AllByRecursion};
+ghost use Rattle.rely_kernel.specs.Valid.{IsValid};
+ghost use Rattle.rely_predicate.specs.Predicates.{IsPredicate};
+ghost use Rattle.chisel_problem.specs.Problem.{ArePredicates, row_within, rows_of, rows_within};
+
+use crate::places::{closed, opened};
+use crate::spending::Debits;
+use chisel_debit::budget;
+use chisel_table::Row;
+use rely_num::Conj;
+use rely_predicate::Predicate;
+use std::alloc::{AllocError, Global};
+
+/// The rows of a kernel's claims, one for each conjunct. Each predicate is read.
+#[tactic(auto, using(crate::proofs::Predicates::read_more, crate::proofs::Predicates::read_all))]
+pub(crate) fn rows(
+    alloc: Global,
+    debits: &Debits,
+    preds: &[Predicate],
+) -> Result<Vec<Row>, AllocError>
+    requires valid { IsValid debits.now.k.now }
+    requires predicates { ArePredicates debits.now.k.now preds.now }
+    ensures rows { IfOk result
+        (λ rows. rows.items ≡ rows_of debits.now.h.now debits.now.k.now preds.now) }
+    ensures read { IfOk result (λ _. AllByRecursion IsPredicate preds.now) }
+{
+    let mut rows = Vec::new(alloc);
+    for (i, claim) in debits.k.claims.as_slice().iter().enumerate() {
+        let budget = budget(debits.h.base, claim.bound);
+        add_rows(&mut rows, debits, budget, preds[i].conjs())?;
+    }
+    Ok(rows)
+}
+
+fn add_rows(
+    rows: &mut Vec<Row>,
+    debits: &Debits,
+    budget: u32,
+    conjs: &[Conj],
+) -> Result<(), AllocError>
+    requires valid { IsValid debits.now.k.now }
+    requires small { AllByRecursion (λ c. AllByRecursion (λ n. n < 2 ^ 36) c.counts) conjs.now }
+    ensures { OnOk result (rows.new.items
+        ≡ rows.old.items ++ rows_within debits.now.h.now debits.now.k.now budget conjs.now) }
+{
+    let alloc = *rows.allocator();
+    for conj in conjs {
+        rows.push(row(alloc, debits, budget, conj.counts.as_slice())?)?;
+    }
+    Ok(())
+}
+
+#[tactic(auto, using(crate::proofs::SpendingLaws::spending_stays))]
+fn row(alloc: Global, debits: &Debits, budget: u32, counts: &[u64]) -> Result<Row, AllocError>
+    requires valid { IsValid debits.now.k.now }
+    requires small { AllByRecursion (λ n. n < 2 ^ 36) counts.now }
+    ensures { IfOk result
+        (λ row. row ≡ row_within debits.now.h.now debits.now.k.now budget counts.now) }
+{
+    let places = debits.spending(alloc, counts)?;
+    let spent = closed(&places) + debits.calls_spend(counts);
+    Ok(Row {
+        budget: budget as i128 - spent as i128,
+        spent: opened(alloc, &places)?,
+    })
+}
