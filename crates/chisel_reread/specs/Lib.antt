@@ -1,0 +1,4 @@
+pub mod Kernels
+pub mod Lexemes
+pub mod Marks
+pub mod Tokens
