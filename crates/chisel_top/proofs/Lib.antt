@@ -3,7 +3,6 @@ pub mod Claiming
 pub mod Fetchings
 pub mod Headline
 pub mod OneAnswers
-pub mod ParsedUnits
 pub mod Readiness
 pub mod Runs
 pub mod Sampling

@@ -22,7 +22,7 @@ use Rattle.rely_kernel.specs.declared.kernel.Linked.{Linked}
 use Rattle.rely_kernel.specs.Machine.{functions}
 use Rattle.rely_kernel.specs.Setting.{IsClosed, IsEarliest, IsOn, marks_of}
 use Rattle.rely_kernel.specs.Valid.{IsValid}
-use Rattle.rely_resolve.specs.Limits.{IsUnit}
+use Rattle.rely_tree.specs.Limits.{IsUnit}
 use Rattle.rely_resolve.specs.Linked.{linked_of}
 use Rattle.rely_resolve.specs.declared.fault.NameFault.{NameFault}
 use Rattle.chisel_lines.specs.declared.refusal.Refusal.{Refusal}
@@ -34,7 +34,8 @@ use Rattle.chisel_top.specs.Promises.{AcceptedHold, OnJudged, UndecidedNear}
 use Rattle.chisel_top.specs.Steps.{AreSound, IsMeant, IsReady}
 use Rattle.chisel_words.specs.Words.{Command, ToVerify, ToRun, form}
 use Rattle.chisel_top.proofs.Headline.{accepted_hold, undecided_near}
-use Rattle.chisel_top.proofs.ParsedUnits.{parsed_unit}
+use Rattle.rely_lexer.proofs.ReadingLaws.{tokens_of-reads}
+use Rattle.rely_parser.proofs.LimitsUnits.{parsed_unit}
 use Rattle.rely_resolve.proofs.ValidLinked.{linked_valid, linked_on}
 
 -- ---- open places
@@ -179,7 +180,7 @@ pub unit_sound : (text : Bytes) (u : UnitTree) → unit_in text ≡ Ok u → IsU
 unit_sound text u e = by_tokens (tokens_of text) refl e
   where
     by_unit : (toks : List Token) → tokens_of text ≡ Ok toks → (x : Result UnitTree ParseFault) → unit_of text toks ≡ x → refused_by refusal.Parse x ≡ Ok u → IsUnit u
-    by_unit toks lexed (Ok v) is e = let same : v ≡ u = cc in parsed_unit text toks u lexed (is ∙ ap Ok same)
+    by_unit toks lexed (Ok v) is e = let same : v ≡ u = cc in parsed_unit text toks u (tokens_of-reads text toks lexed) (is ∙ ap Ok same)
     by_unit toks lexed (Err f) is e = absurd (cc)
 
     by_tokens : (x : Result (List Token) LexFault) → tokens_of text ≡ x → (refused_by refusal.Lex x >>= λ toks. refused_by refusal.Parse (unit_of text toks)) ≡ Ok u → IsUnit u

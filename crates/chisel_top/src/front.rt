@@ -4,7 +4,7 @@ ghost use Rattle.std.specs.Prelude.{◌≡◌, ◌∷◌, [], List, ℕ, Ok, IfO
 ghost use Rattle.rely_hard.specs.Meaning.{hardware_of};
 ghost use Rattle.rely_hard.specs.Valid.{IsHardware};
 ghost use Rattle.rely_kernel.specs.Machine.{functions};
-ghost use Rattle.rely_resolve.specs.Limits.{IsUnit};
+ghost use Rattle.rely_tree.specs.Limits.{IsUnit};
 ghost use Rattle.rely_resolve.specs.Linked.{linked_of};
 ghost use Rattle.rely_tree.specs.Shape.{unit_shape};
 ghost use Rattle.chisel_top.specs.Findings.{Files, meant_in, meant_of, open_place, open_place_in, ready_by, ready_of, refused_by, unit_in};

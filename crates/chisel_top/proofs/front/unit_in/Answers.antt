@@ -1,8 +1,7 @@
-use Rattle.std.proofs.Common.{Ok, sym, ap, ◌∙◌}
-use Rattle.rely_tree.specs.Shape.{unit_shape}
-use Rattle.chisel_top.proofs.ParsedUnits.{parsed_unit}
+use Rattle.std.proofs.Common.{sym, subst}
+use Rattle.rely_lexer.specs.Readings.{AreTokensFrom}
 use Rattle.chisel_top.proofs.front.unit_in.Goals as goal
 
 pub returns-in-Ok-parse-clause-unit : goal.returns-in-Ok-parse-clause-unit
 returns-in-Ok-parse-clause-unit c =
-    parsed_unit c.args.text.now c.as_slice.result.now (unit_shape c.in-Ok-parse.unit) (c.in-Ok.ensures.ok ∙ ap Ok (sym c.as_slice.ensures.value)) c.in-Ok-parse.ensures.ok
+    c.in-Ok-parse.ensures.unit (subst (AreTokensFrom c.args.text.now 0) (sym c.as_slice.ensures.value) c.in-Ok.ensures.reads)
