@@ -28,6 +28,9 @@ pub fn shift(
 {
     let from = before.conjs();
     let to = after.conjs();
+    if from[0].vars.bits != to[0].vars.bits {
+        return Ok(None);
+    }
     let by = difference(alloc, from[0].counts.as_slice(), to[0].counts.as_slice())?;
     if !have_grown(&by, from, to) {
         return Ok(None);

@@ -1,12 +1,14 @@
 -- What a new list comes to, as code finds it.
 use Rattle.std.proofs.Common.{◌≡◌, ℕ, ◌+◌, ◌<◌, ◌≤◌, Bool, true, false, List, [], ◌∷◌, ◌++◌, map, length, nat_lt, Some, None, Result, Ok, Err, IsTrue, refl, sym, ap, subst, ◌∙◌, inl, inr, arith, append-nil, append_assoc}
+use Rattle.std.specs.List.{All}
 use Rattle.std.specs.Result.{IfErr}
 use Rattle.std.proofs.lemmas.Bool.{cond-true, cond-false, cases_order, ltb-true, lt-ltb}
 use Rattle.rely_num.specs.declared.conj.Conj.{Conj}
 use Rattle.rely_num.specs.declared.span.Span.{Span}
 use Rattle.rely_predicate.specs.Top.{top, with_one}
+use Rattle.rely_predicate.specs.Predicates.{IsPredicate}
 use Rattle.rely_predicate.specs.Shift.{raise, times}
-use Rattle.rely_predicate.proofs.Laws.{top_again, top_append, with_one_is}
+use Rattle.rely_predicate.proofs.Laws.{top_again, top_append, top_one, with_one_is}
 use Rattle.rely_loops.specs.Grown.{too_many}
 use Rattle.rely_precond.specs.declared.fault.PreFault.{PreFault}
 use Rattle.rely_precond.specs.declared.fault.PreFault.TheVariants as fault
@@ -80,6 +82,24 @@ few_found cs p few found = let e : Some p ≡ Some (top cs) = sym found ∙ few_
 
 pub few_wide : (cs : List Conj) → length cs ≤ 256 → added [] cs ≡ None → ⊥
 few_wide cs few none = let e : None ≡ Some (top cs) = sym none ∙ few_added cs few in cc
+
+-- ---- a list of one conjunct at most
+
+-- it is its own top
+short_own : (cs : List Conj) → length cs ≤ 1 → top cs ≡ cs
+short_own [] h = no_top
+short_own (c ∷ []) h = top_one c
+short_own (c ∷ d ∷ cs) h = absurd (omega (arith, h))
+
+-- and so a predicate
+pub short_is : (labels : ℕ) (cs : List Conj) → length cs ≤ 1 → All (λ c. length c.counts ≡ labels) cs → IsPredicate (record { labels = labels; conjs = cs })
+short_is labels cs h counted = record { counted = counted; own_top = short_own cs h; short = omega (arith, h) }
+
+-- of the same conjuncts
+pub short_added : (cs : List Conj) → length cs ≤ 1 → added [] cs ≡ Some cs
+short_added cs h = few_added cs (omega (arith, h)) ∙ ap Some (short_own cs h)
+
+-- ---- a list that stands
 
 pub stand_some : (at : Span) (ps p : List Conj) (work : ℕ) → too_many ps ≡ false → added [] ps ≡ Some p → stand at ps work ≡ worked at (Some p) work
 stand_some at ps p work h found = stand_goes at ps work h ∙ ap (λ o. worked at o work) found

@@ -34,13 +34,16 @@ fn has_too_many(counts: &[u64]) -> bool
     counts.iter().any(|n| *n > MOST_COUNT)
 }
 
-// A predicate with the conjuncts of a list, added one by one.
+// A predicate with the conjuncts of a list, added one by one. One alone is a predicate as it stands.
 fn gathered(alloc: Global, labels: u32, list: Vec<Conj>) -> Result<Predicate, PredFault>
     requires { All (λ c. length c.counts ≡ labels) list.items }
     ensures ok { IfOk result (λ p. added [] list.items ≡ Some p.conjs) }
     ensures labels { IfOk result (λ p. p.labels ≡ labels) }
     ensures wide { IfErr result (λ f. f ≡ PredFault.Wide → added [] list.items ≡ None) }
 {
+    if list.len() <= 1 {
+        return Ok(Predicate::of(labels, list));
+    }
     let mut gathered = Predicate::new(alloc, labels);
     for c in list {
         gathered.add(c)?;

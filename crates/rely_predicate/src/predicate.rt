@@ -71,6 +71,14 @@ impl Predicate {
         }
     }
 
+    /// Of conjuncts that are a predicate already. It takes no memory.
+    pub fn of(labels: u32, conjs: Vec<Conj>) -> Predicate
+        requires { IsPredicate (record { labels = labels; conjs = conjs.items }) }
+        ensures { result ≡ record { labels = labels; conjs = conjs.items } }
+    {
+        Predicate { labels, conjs }
+    }
+
     /// Its conjuncts, in order of their sets of variables and then of their counts label by label.
     pub fn conjs(&self) -> &[Conj]
         ensures value { result.now ≡ self.now.conjs }

@@ -24,13 +24,13 @@ all_counted p q a b by v w l h k e r cs u m f =
 
 pub have_grown-requires-clause-before : goal.have_grown-requires-clause-before
 have_grown-requires-clause-before c =
-    all_counted c.args.before.now c.args.after.now c.index-from-0.result c.index-to-0.result c.deref.result.now c.conjs-from.ensures.valid c.conjs-to.ensures.valid c.requires.shape c.requires.before c.requires.after
+    all_counted c.args.before.now c.args.after.now c.index-from-0-2.result c.index-to-0-2.result c.deref.result.now c.conjs-from.ensures.valid c.conjs-to.ensures.valid c.requires.shape c.requires.before c.requires.after
     (made _ _ _ _ _ _ _ _ _ _ c.conjs-from.ensures.value c.conjs-to.ensures.value c.as_slice.ensures c.as_slice-2.ensures c.in_ok-by.ensures c.deref.ensures.value)
     c.args.before.now c.conjs-from.result.now c.conjs-from.ensures.valid c.requires.shape c.conjs-from.ensures.value
 
 pub have_grown-requires-clause-after : goal.have_grown-requires-clause-after
 have_grown-requires-clause-after c =
-    all_counted c.args.before.now c.args.after.now c.index-from-0.result c.index-to-0.result c.deref.result.now c.conjs-from.ensures.valid c.conjs-to.ensures.valid c.requires.shape c.requires.before c.requires.after
+    all_counted c.args.before.now c.args.after.now c.index-from-0-2.result c.index-to-0-2.result c.deref.result.now c.conjs-from.ensures.valid c.conjs-to.ensures.valid c.requires.shape c.requires.before c.requires.after
     (made _ _ _ _ _ _ _ _ _ _ c.conjs-from.ensures.value c.conjs-to.ensures.value c.as_slice.ensures c.as_slice-2.ensures c.in_ok-by.ensures c.deref.ensures.value)
     c.args.after.now c.conjs-to.result.now c.conjs-to.ensures.valid refl c.conjs-to.ensures.value
 
@@ -40,34 +40,34 @@ tested ps qs fs ts a b by t r f g e h k = (λ i. all_grow (sym e i) (sym f i) (s
 
 pub returns-then-not-have_grown-clause-exact : goal.returns-then-not-have_grown-clause-exact
 returns-then-not-have_grown-clause-exact c =
-    sym (shift_no c.args.before.now.conjs c.args.after.now.conjs c.index-from-0.result c.index-to-0.result c.requires.before c.requires.after
-    (tested _ _ _ _ c.index-from-0.result c.index-to-0.result c.deref.result.now c.have_grown.result false c.conjs-from.ensures.value c.conjs-to.ensures.value
+    sym (shift_no c.args.before.now.conjs c.args.after.now.conjs c.index-from-0-2.result c.index-to-0-2.result c.requires.before c.requires.after
+    (tested _ _ _ _ c.index-from-0-2.result c.index-to-0-2.result c.deref.result.now c.have_grown.result false c.conjs-from.ensures.value c.conjs-to.ensures.value
     (made _ _ _ _ _ _ _ _ _ _ c.conjs-from.ensures.value c.conjs-to.ensures.value c.as_slice.ensures c.as_slice-2.ensures c.in_ok-by.ensures c.deref.ensures.value)
     c.have_grown.ensures c.if-not-have_grown.true))
 
 pub returns-then-not-have_grown-clause-one : goal.returns-then-not-have_grown-clause-one
 returns-then-not-have_grown-clause-one c =
     found_exactly c.args.before.now c.args.after.now None c.conjs-from.ensures.valid c.conjs-to.ensures.valid c.requires.shape c.requires.before c.requires.after
-    (sym (shift_no c.args.before.now.conjs c.args.after.now.conjs c.index-from-0.result c.index-to-0.result c.requires.before c.requires.after
-    (tested _ _ _ _ c.index-from-0.result c.index-to-0.result c.deref.result.now c.have_grown.result false c.conjs-from.ensures.value c.conjs-to.ensures.value
+    (sym (shift_no c.args.before.now.conjs c.args.after.now.conjs c.index-from-0-2.result c.index-to-0-2.result c.requires.before c.requires.after
+    (tested _ _ _ _ c.index-from-0-2.result c.index-to-0-2.result c.deref.result.now c.have_grown.result false c.conjs-from.ensures.value c.conjs-to.ensures.value
     (made _ _ _ _ _ _ _ _ _ _ c.conjs-from.ensures.value c.conjs-to.ensures.value c.as_slice.ensures c.as_slice-2.ensures c.in_ok-by.ensures c.deref.ensures.value)
     c.have_grown.ensures c.if-not-have_grown.true)))
 
 pub returns-clause-exact : goal.returns-clause-exact
 returns-clause-exact c =
-    let by : c.deref.result.now ≡ between c.args.before.now.conjs c.args.after.now.conjs c.index-from-0.result c.index-to-0.result =
+    let by : c.deref.result.now ≡ between c.args.before.now.conjs c.args.after.now.conjs c.index-from-0-2.result c.index-to-0-2.result =
     made _ _ _ _ _ _ _ _ _ _ c.conjs-from.ensures.value c.conjs-to.ensures.value c.as_slice.ensures c.as_slice-2.ensures c.in_ok-by.ensures c.deref.ensures.value in
     ap (λ (v : List ℕ). Some v) (c.from_vec.ensures ∙ sym c.deref.ensures.value ∙ by)
-    ∙ sym (shift_yes c.args.before.now.conjs c.args.after.now.conjs c.index-from-0.result c.index-to-0.result c.requires.before c.requires.after
-    (tested _ _ _ _ c.index-from-0.result c.index-to-0.result c.deref.result.now c.have_grown.result true c.conjs-from.ensures.value c.conjs-to.ensures.value by
+    ∙ sym (shift_yes c.args.before.now.conjs c.args.after.now.conjs c.index-from-0-2.result c.index-to-0-2.result c.requires.before c.requires.after
+    (tested _ _ _ _ c.index-from-0-2.result c.index-to-0-2.result c.deref.result.now c.have_grown.result true c.conjs-from.ensures.value c.conjs-to.ensures.value by
     c.have_grown.ensures c.if-not-have_grown.false))
 
 pub returns-clause-one : goal.returns-clause-one
 returns-clause-one c =
-    let by : c.deref.result.now ≡ between c.args.before.now.conjs c.args.after.now.conjs c.index-from-0.result c.index-to-0.result =
+    let by : c.deref.result.now ≡ between c.args.before.now.conjs c.args.after.now.conjs c.index-from-0-2.result c.index-to-0-2.result =
     made _ _ _ _ _ _ _ _ _ _ c.conjs-from.ensures.value c.conjs-to.ensures.value c.as_slice.ensures c.as_slice-2.ensures c.in_ok-by.ensures c.deref.ensures.value in
     found_exactly c.args.before.now c.args.after.now (Some c.from_vec.result) c.conjs-from.ensures.valid c.conjs-to.ensures.valid c.requires.shape c.requires.before c.requires.after
     (ap (λ (v : List ℕ). Some v) (c.from_vec.ensures ∙ sym c.deref.ensures.value ∙ by)
-    ∙ sym (shift_yes c.args.before.now.conjs c.args.after.now.conjs c.index-from-0.result c.index-to-0.result c.requires.before c.requires.after
-    (tested _ _ _ _ c.index-from-0.result c.index-to-0.result c.deref.result.now c.have_grown.result true c.conjs-from.ensures.value c.conjs-to.ensures.value by
+    ∙ sym (shift_yes c.args.before.now.conjs c.args.after.now.conjs c.index-from-0-2.result c.index-to-0-2.result c.requires.before c.requires.after
+    (tested _ _ _ _ c.index-from-0-2.result c.index-to-0-2.result c.deref.result.now c.have_grown.result true c.conjs-from.ensures.value c.conjs-to.ensures.value by
     c.have_grown.ensures c.if-not-have_grown.false)))

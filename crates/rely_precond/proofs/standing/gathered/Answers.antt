@@ -1,4 +1,4 @@
-use Rattle.std.proofs.Common.{◌≡◌, List, [], ◌∷◌, ◌++◌, length, sym, ap, subst, ◌∙◌, None, Err}
+use Rattle.std.proofs.Common.{◌≡◌, List, [], ◌∷◌, ◌++◌, length, sym, ap, subst, ◌∙◌, None, Some, Err, arith, tests}
 use Rattle.std.specs.List.{All}
 use Rattle.std.specs.Vec.Iter.{into_iter_items}
 use Rattle.std.proofs.lemmas.List.Elements.{All-tail}
@@ -8,8 +8,15 @@ use Rattle.rely_predicate.specs.declared.predicate.PredFault.TheVariants.{Wide}
 use Rattle.rely_predicate.specs.Top.{top}
 use Rattle.rely_predicate.proofs.Laws.{top_again}
 use Rattle.rely_precond.specs.Walk.{added}
-use Rattle.rely_precond.proofs.Stops.{added_goes, added_stops, if_err, ok_err, few_from}
+use Rattle.rely_precond.proofs.Stops.{added_goes, added_stops, short_is, short_added, if_err, ok_err, few_from}
 use Rattle.rely_precond.proofs.standing.gathered.Goals as goal
+
+pub of-requires : goal.of-requires
+of-requires c = short_is c.args.labels c.args.list.items (let o = c.args.list.ok in omega (arith, tests)) c.requires
+
+pub returns-then-len-le1-clause-ok : goal.returns-then-len-le1-clause-ok
+returns-then-len-le1-clause-ok c =
+    short_added c.args.list.items (let o = c.args.list.ok in omega (arith, tests)) ∙ ap (λ p. Some p.conjs) (sym c.of.ensures)
 
 pub loop-c-preserved : goal.loop-c-preserved
 loop-c-preserved c =
