@@ -1,12 +1,17 @@
 //! What each option adds to the bounds of a partial choice when it is fixed, computed once for a table and a pool.
 ghost use Rattle.std.specs.Prelude.{ℕ, ◌≡◌, ◌+◌, ◌*◌, ◌<◌, ◌≤◌, ◌^◌, ◌++◌, true, length, slice_index, IfOk};
 ghost use Rattle.chisel_table.specs.declared.table.TheConstants.{MAX_OPTIONS};
+ghost use Rattle.chisel_table.specs.declared.lagrangian.TheConstants.{ENERGY_WEIGHT};
+ghost use Rattle.chisel_table.specs.Grid.{Holds};
+ghost use Rattle.chisel_table.specs.Lagrangian.{IsVector, excess, penalty, value};
+ghost use Rattle.chisel_table.specs.Sums.{sum_to};
 ghost use Rattle.chisel_table.specs.Partials.{IsPartial, is_unfixed, nothing_fixed, with_option};
 ghost use Rattle.chisel_table.specs.Tables.{decision_count, option_count};
 ghost use Rattle.chisel_table.specs.Valid.{IsTable};
 ghost use Rattle.chisel_bound.specs.declared.bounds.TheConstants.{MAX_VECTORS};
 ghost use Rattle.chisel_bound.specs.Ascent.{IsPenaltyGrid};
 ghost use Rattle.chisel_bound.specs.Pool.{IsPool};
+ghost use Rattle.chisel_bound.specs.Weights.{least_on};
 ghost use Rattle.chisel_bound.specs.Written.{WritesOptions, WritesVector};
 
 use crate::bounds::{Bounds, Kept, MAX_VECTORS};
@@ -14,7 +19,7 @@ use crate::columns::columns;
 use crate::pool::Pool;
 use crate::weights::{least_option, weight};
 use chisel_table::{
-    ENERGY_WEIGHT, MAX_OPTIONS, Partial, Table, decision_count, energies_of, excess, value,
+    ENERGY_WEIGHT, MAX_OPTIONS, Partial, Table, allowance, decision_count, energies_of,
     write_penalties,
 };
 use rely_num::List;
@@ -75,9 +80,12 @@ impl<'a> Differences<'a> {
     {
         let partial = Partial::nothing_fixed(self.table);
         let from = bounds.len();
+        let places = MAX_OPTIONS * decision_count(self.table);
+        let mut grid = vec![in *bounds.allocator(); 0u128; places]?;
         for vector in self.pool.vectors.as_slice() {
-            let value = value(self.table, vector.as_slice(), &partial);
-            let excess = excess(self.table, vector.as_slice(), &partial);
+            write_penalties(self.table, vector.as_slice(), &mut grid);
+            let value = first_value(self.table, vector.as_slice(), &grid);
+            let excess = first_excess(self.table, vector.as_slice(), &grid);
             bounds.push(Bounds { value, excess })?;
         }
         Ok(Kept { partial, from })
@@ -116,6 +124,46 @@ impl<'a> Differences<'a> {
             from,
         })
     }
+}
+
+// The value with a vector where nothing is fixed, from the penalties with that vector.
+fn first_value(t: &Table, l: &[u64], grid: &[u128]) -> i128
+    requires table { IsTable t.now }
+    requires vector { IsVector t.now l.now }
+    requires grid { Holds t.now (penalty t.now l.now) grid.now }
+    ensures { result ≡ value t.now l.now (nothing_fixed t.now) }
+{
+    let fixed = ENERGY_WEIGHT as u128 * t.fixed as u128;
+    (fixed + least_weights(t, ENERGY_WEIGHT, grid)) as i128 - allowance(t, l)
+}
+
+// The excess with a vector where nothing is fixed.
+fn first_excess(t: &Table, l: &[u64], grid: &[u128]) -> i128
+    requires table { IsTable t.now }
+    requires vector { IsVector t.now l.now }
+    requires grid { Holds t.now (penalty t.now l.now) grid.now }
+    ensures { result ≡ excess t.now l.now (nothing_fixed t.now) }
+{
+    least_weights(t, 0, grid) as i128 - allowance(t, l)
+}
+
+// The sum of the least weights of all decisions, from the penalties of a grid.
+fn least_weights(t: &Table, scale: u64, grid: &[u128]) -> u128
+    requires table { IsTable t.now }
+    requires scale { scale ≤ ENERGY_WEIGHT }
+    requires grid { IsPenaltyGrid t.now grid.now }
+    ensures value { result ≡ sum_to (decision_count t.now) (least_on t.now scale grid.now) }
+    ensures bound { result ≤ 2 ^ 122 }
+{
+    let mut sum = 0;
+    for d in 0..decision_count(t) {
+        let from = MAX_OPTIONS * d;
+        let energies = energies_of(t, d);
+        let penalties = &grid[from..from + energies.len()];
+        let least = least_option(scale, energies, penalties);
+        sum += weight(scale, energies, penalties, least);
+    }
+    sum
 }
 
 // Writes what each option adds with vector j, from the penalties with that vector.

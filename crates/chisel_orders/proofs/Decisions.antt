@@ -10,7 +10,7 @@ use Rattle.chisel_table.specs.Tables.{decision_count}
 use Rattle.chisel_table.proofs.Sums.{by_test, differ}
 use Rattle.chisel_table.specs.Sums.{list_to}
 use Rattle.chisel_bound.proofs.Lists.{listed_at}
-use Rattle.chisel_search.specs.Rules.{CanBranch, IsUnfixed}
+use Rattle.chisel_search.specs.Rules.{CanBranch}
 use Rattle.chisel_search.proofs.Complete.{some_unfixed}
 use Rattle.chisel_orders.specs.declared.branching.Branch.{Branch}
 use Rattle.chisel_orders.specs.Branching.{decision, larger, larger_if, largest_to, largest, size, IsLargest}

@@ -1,14 +1,14 @@
 -- The place that is best first is the first of the least value.
 use Rattle.std.proofs.Common.{◌≡◌, ℕ, zero, suc, true, false, ◌+◌, ◌-◌, ◌≤◌, ◌<◌, ◌==◌, List, length, refl, arith, add-one}
-use Rattle.std.specs.Prelude.{int_lt}
-use Rattle.std.proofs.lemmas.Bool.{eqb-true}
+use Rattle.std.specs.Prelude.{int_lt, nat_lt}
+use Rattle.std.proofs.lemmas.Bool.{eqb-true, ltb-false, ltb-true}
 use Rattle.std.proofs.lemmas.Int.{ints}
-use lib.IntN.{ℤ}
 use lib.Signed.{◌≤ℤ◌, ◌<ℤ◌}
 use Rattle.chisel_table.proofs.Sums.{by_test, differ, int_below, int_above}
 use Rattle.chisel_search.specs.declared.part.Part.{Part}
 use Rattle.chisel_orders.specs.declared.picking.Order.TheVariants.{Best}
-use Rattle.chisel_orders.specs.Picking.{value_at, least_to, place, IsFirstLeast}
+use Rattle.chisel_search.specs.Rules.{IsFirstLeast, value_at}
+use Rattle.chisel_orders.specs.Picking.{least_to, place}
 
 pub least_one : (parts : List Part) → least_to parts 0 ≡ 0
 unfolding least_to
@@ -66,3 +66,14 @@ is_first_least parts some =
 
 pub least_inside : (parts : List Part) (n : ℕ) → least_to parts n ≤ n
 least_inside parts n = (least_up_to parts n).inside
+
+-- two places of which each is the first of the least value are one
+pub first_least_once : (parts : List Part) (j k : ℕ) → IsFirstLeast parts j → IsFirstLeast parts k → j ≡ k
+first_least_once parts j k a b = by_test (j == k)
+    (λ e. eqb-true j k e)
+    (λ e. let ne = differ j k e in by_test (nat_lt j k)
+    (λ l. absurd (let x = b.first j (ltb-true j k l) in let y = a.least k b.inside in grind (arith, ints)))
+    (λ l. absurd (let m = ltb-false j k l in let x = a.first k (omega arith) in let y = b.least j a.inside in grind (arith, ints))))
+
+pub best_place : (parts : List Part) (k : ℕ) → IsFirstLeast parts k → k ≡ place Best parts
+best_place parts k h = first_least_once parts k (place Best parts) h (is_first_least parts (let i = h.inside in omega arith))

@@ -1,5 +1,5 @@
 -- A search that answers as a strategy does finds what the strategy finds.
-use Rattle.std.proofs.Common.{◌≡◌, ℕ, subst, zero, suc, ◌≤◌, List, length, sym, ap, ◌∙◌}
+use Rattle.std.proofs.Common.{◌≡◌, ℕ, subst, zero, suc, ◌≤◌, List, sym}
 use Rattle.chisel_table.specs.declared.partial.Partial.{Partial}
 use Rattle.chisel_table.specs.declared.table.Table.{Table}
 use Rattle.chisel_table.specs.Valid.{IsTable}
@@ -7,7 +7,7 @@ use Rattle.chisel_cert.specs.Tree.{nodes}
 use Rattle.chisel_search.specs.declared.found.Found.{Found}
 use Rattle.chisel_search.specs.declared.part.Part.{Part}
 use Rattle.chisel_search.specs.Found.{GoesOn, IsFound}
-use Rattle.chisel_search.specs.Search.{IsLawful, Search, Step, Run, rule_of, start, end}
+use Rattle.chisel_search.specs.Search.{IsLawful, Search, Run, rule_of}
 use Rattle.chisel_orders.specs.declared.strategy.Strategy.{Strategy}
 use Rattle.chisel_orders.specs.Branching.{decision, size}
 use Rattle.chisel_orders.specs.Picking.{place}

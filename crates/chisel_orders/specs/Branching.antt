@@ -1,5 +1,5 @@
 -- By what a branching rule takes one decision of a table to be larger than another, and the decision that it answers.
-use Rattle.std.specs.Prelude.{ℕ, zero, suc, Bool, true, false, ◌≡◌, ◌<◌, ◌≤◌, Option, Some, None, nat_lt, unwrap_or, if◌then◌else◌}
+use Rattle.std.specs.Prelude.{ℕ, zero, suc, Bool, true, false, ◌<◌, ◌≤◌, Option, Some, None, nat_lt, unwrap_or, if◌then◌else◌}
 use Rattle.chisel_table.specs.declared.partial.Partial.{Partial}
 use Rattle.chisel_table.specs.declared.table.Table.{Table}
 use Rattle.chisel_table.specs.Partials.{is_unfixed}

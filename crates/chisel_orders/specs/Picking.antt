@@ -1,12 +1,9 @@
 -- The place of the part that an order takes next.
-use Rattle.std.specs.Prelude.{ℕ, zero, suc, ◌≡◌, ◌<◌, ◌-◌, List, [], ◌∷◌, length, map, slice_index_or, ℤ, pos, int_lt, if◌then◌else◌, ◌<ℤ◌, ◌≤ℤ◌}
+use Rattle.std.specs.Prelude.{ℕ, zero, suc, ◌<◌, ◌-◌, List, length, int_lt, if◌then◌else◌}
 use Rattle.chisel_search.specs.declared.part.Part.{Part}
+use Rattle.chisel_search.specs.Rules.{IsFirstLeast, value_at}
 use Rattle.chisel_orders.specs.declared.picking.Order.{Order}
 use Rattle.chisel_orders.specs.declared.picking.Order.TheVariants.{Deep, Best}
-
--- the value of the part at place k
-abbrev pub value_at : List Part → ℕ → ℤ
-value_at parts k = slice_index_or (map (λ p. p.value) parts) k (pos 0)
 
 -- of the places up to n, the first of those with the least value
 unfoldable pub least_to : List Part → ℕ → ℕ
@@ -17,12 +14,6 @@ least_to parts (suc n) = if int_lt (value_at parts (suc n)) (value_at parts (lea
 abbrev pub place : Order → List Part → ℕ
 place Deep parts = length parts - 1
 place Best parts = least_to parts (length parts - 1)
-
--- k is a place of the list, no part has a smaller value, and none before it has the same
-pub record IsFirstLeast (parts : List Part) (k : ℕ) : Type 0 where
-  pub inside : k < length parts
-  pub least : (j : ℕ) → j < length parts → value_at parts k ≤ℤ value_at parts j
-  pub first : (j : ℕ) → j < k → value_at parts k <ℤ value_at parts j
 
 abbrev pub BestIsFirstLeast : Type 0
 BestIsFirstLeast = (parts : List Part) → 0 < length parts → IsFirstLeast parts (place Best parts)

@@ -1,13 +1,11 @@
 -- What a search by a strategy finds.
 use Rattle.std.specs.Prelude.{ℕ, ◌≡◌, ◌≤◌, ◌<◌, List, length}
-use Rattle.chisel_table.specs.declared.partial.Partial.{Partial}
 use Rattle.chisel_table.specs.declared.table.Table.{Table}
 use Rattle.chisel_table.specs.Least.{IsLeast}
 use Rattle.chisel_cert.specs.Node.{certificate_of}
 use Rattle.chisel_cert.specs.Tree.{nodes}
 use Rattle.chisel_cert.specs.Valid.{IsValidFor}
 use Rattle.chisel_search.specs.declared.found.Found.{Found}
-use Rattle.chisel_search.specs.declared.part.Part.{Part}
 use Rattle.chisel_search.specs.Found.{options_in}
 use Rattle.chisel_search.specs.Laws.{pick_of}
 use Rattle.chisel_search.specs.Printed.{certificate}

@@ -23,7 +23,7 @@ pub fn deep(parts: &[Part]) -> usize
     parts.len() - 1
 }
 
-/// The first place of the least value.
+/// The first place of the least value. A search by `Order::Best` takes the same parts without a walk over the list.
 pub fn least(parts: &[Part]) -> usize
     requires { 0 < length parts.now }
     ensures inside { result < length parts.now }

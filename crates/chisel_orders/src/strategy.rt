@@ -9,10 +9,10 @@ ghost use Rattle.chisel_orders.specs.Branching.{largest};
 ghost use Rattle.chisel_orders.specs.Strategy.{IsLeastFound, TakesMore};
 
 use crate::branching::{Branch, largest, sizes};
-use crate::picking::{Order, deep, least};
+use crate::picking::{Order, deep};
 use bumpalo::Bump;
 use chisel_bound::Pool;
-use chisel_search::{Found, Pick, Rule, SearchFault, search};
+use chisel_search::{Found, Pick, Rule, SearchFault, search, search_best_first};
 use chisel_table::{Partial, Table};
 use std::alloc::Global;
 
@@ -60,14 +60,6 @@ pub fn find_least<'a>(
             &Pick::new(deep),
             strategy.nodes,
         ),
-        Order::Best => search(
-            alloc,
-            arena,
-            t,
-            pool,
-            &rule,
-            &Pick::new(least),
-            strategy.nodes,
-        ),
+        Order::Best => search_best_first(alloc, arena, t, pool, &rule, strategy.nodes),
     }
 }

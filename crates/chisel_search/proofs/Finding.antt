@@ -1,5 +1,5 @@
 -- The search as a whole: what a step keeps, and what is found where no part is open.
-use Rattle.std.proofs.Common.{◌≡◌, ◌≢◌, Bool, true, false, ℕ, zero, suc, ◌+◌, ◌≤◌, ◌<◌, ◌^◌, List, [], ◌∷◌, ◌++◌, length, map, refl, sym, ap, subst, ◌∙◌, arith, Option, Some, None}
+use Rattle.std.proofs.Common.{◌≡◌, ◌≢◌, Bool, true, false, ℕ, ◌+◌, ◌≤◌, ◌<◌, ◌^◌, List, [], ◌∷◌, length, refl, sym, ap, subst, ◌∙◌, arith, Option}
 use Rattle.std.specs.Prelude.{slice_index, slice_index_or, ◌==◌}
 use Rattle.std.proofs.lemmas.Bool.{eqb-true}
 use Rattle.chisel_table.proofs.Sums.{differ}
@@ -12,22 +12,20 @@ use Rattle.chisel_table.specs.Partials.{IsPartial, nothing_fixed}
 use Rattle.chisel_table.specs.Valid.{IsTable}
 use Rattle.chisel_bound.specs.declared.differences.Differences.{Differences}
 use Rattle.chisel_bound.specs.Pool.{BeginsWithZeros}
-use Rattle.chisel_bound.proofs.Lists.{length_listed}
 use Rattle.chisel_cert.specs.Node.{certificate_of}
 use Rattle.chisel_cert.specs.Tree.{Tree, nodes}
 use Rattle.chisel_cert.specs.Valid.{IsValidFor}
 use Rattle.chisel_search.specs.declared.found.Found.{Found}
 use Rattle.chisel_search.specs.declared.machine.Machine.{Machine}
-use Rattle.chisel_search.specs.declared.open.Open.{Open}
 use Rattle.chisel_search.specs.declared.part.Part.{Part}
 use Rattle.chisel_search.specs.declared.visit.Visit.{Visit}
 use Rattle.chisel_search.specs.Fold.{InLog, IsOver, IsCertified}
-use Rattle.chisel_search.specs.Found.{GoesOn, IsFound, IsOfRule, options_in}
-use Rattle.chisel_search.specs.Logs.{State, Leads, Logged, first_state, state_after, fate_of, decision_of, children_by, count_by, numbers_from}
+use Rattle.chisel_search.specs.Found.{GoesOn, IsFound, options_in}
+use Rattle.chisel_search.specs.Logs.{Leads, Logged, first_state, state_after, fate_of, decision_of, children_by, count_by, numbers_from}
 use Rattle.chisel_search.specs.Machine.{EachNumbered, IsBegun, IsKnown, IsMachine, IsSearching, IsVisited, best_after, held_options, pool_of, table_of}
-use Rattle.chisel_search.specs.Printed.{IsPrinted, certified, certificate}
+use Rattle.chisel_search.specs.Printed.{IsPrinted, certified}
 use Rattle.chisel_search.specs.Rules.{Answered, CanBranch, IsRule, IsUnfixed}
-use Rattle.chisel_search.specs.Search.{Search, start, end, fate, replaced, part_of, parts_of, Run, Divides, IsLawful, rule_of, unfixed}
+use Rattle.chisel_search.specs.Search.{start, end, fate, replaced, part_of, parts_of, Run, Divides, IsLawful, rule_of, unfixed}
 use Rattle.chisel_search.proofs.Every.{divides_answered, run_valid}
 use Rattle.chisel_search.proofs.Least.{run_least}
 use Rattle.chisel_search.proofs.Lists.{map_replaced}
@@ -54,9 +52,9 @@ lawful pre post f t table h =
 module _ (d : Differences) (Answers : Partial → ℕ → Type 0) (Picks : List Part → ℕ → Type 0) where
   -- ---- the start
 
-  pub begun : (m : Machine) (o : Open) → IsMachine d m → IsBegun d m → IsKnown d m.bounds.items (nothing_fixed (table_of d)) 0 →
-      o.parts.items ≡ part_of (table_of d) (pool_of d) (nothing_fixed (table_of d)) ∷ [] → o.numbers.items ≡ 0 ∷ [] → IsSearching d Answers Picks m o
-  begun m o h b k p n = record {
+  pub begun : (m : Machine) (ps : List Part) (ns : List ℕ) → IsMachine d m → IsBegun d m → IsKnown d m.bounds.items (nothing_fixed (table_of d)) 0 →
+      ps ≡ part_of (table_of d) (pool_of d) (nothing_fixed (table_of d)) ∷ [] → ns ≡ 0 ∷ [] → IsSearching d Answers Picks m ps ns
+  begun m ps ns h b k p n = record {
     machine = h;
     state = first_state (table_of d);
     logged = subst (λ log. Logged (table_of d) (pool_of d) Answers Picks log (length log) (first_state (table_of d))) (sym b.log) refl;
@@ -69,33 +67,33 @@ module _ (d : Differences) (Answers : Partial → ℕ → Type 0) (Picks : List 
 
   -- ---- a step
 
-  module _ (m : Machine) (o : Open) (h : IsSearching d Answers Picks m o) (place : ℕ) (inside : place < length o.parts.items) (e : Part) where
+  module _ (m : Machine) (ps : List Part) (ns : List ℕ) (h : IsSearching d Answers Picks m ps ns) (place : ℕ) (inside : place < length ps) (e : Part) where
     in_list : place < length h.state.search.parts
     in_list = let a = ap length h.parts in let b = length-map h.state.search.parts (part_of (table_of d) (pool_of d)) in omega arith
 
-    pub part_taken : (slice_index_or o.parts.items place e).partial ≡ slice_index_or h.state.search.parts place (nothing_fixed (table_of d))
+    pub part_taken : (slice_index_or ps place e).partial ≡ slice_index_or h.state.search.parts place (nothing_fixed (table_of d))
     part_taken =
         ap (λ l. (slice_index_or l place e).partial) h.parts
         ∙ ap (λ (x : Part). x.partial) (get_or-map (part_of (table_of d) (pool_of d)) h.state.search.parts place (nothing_fixed (table_of d)) e in_list)
 
-    pub has_number : place < length o.numbers.items
+    pub has_number : place < length ns
     has_number = let a = numbered_length (IsKnown d m.bounds.items) h.state.search.parts h.state.numbers h.known in let b = ap length h.numbers in let c = in_list in omega arith
 
-    pub known_taken : IsKnown d m.bounds.items (slice_index_or o.parts.items place e).partial (slice_index o.numbers.items place)
+    pub known_taken : IsKnown d m.bounds.items (slice_index_or ps place e).partial (slice_index ns place)
     known_taken =
-        subst (λ p. IsKnown d m.bounds.items p (slice_index o.numbers.items place)) (sym part_taken)
+        subst (λ p. IsKnown d m.bounds.items p (slice_index ns place)) (sym part_taken)
         (subst (λ ns. IsKnown d m.bounds.items (slice_index_or h.state.search.parts place (nothing_fixed (table_of d))) (slice_index ns place)) (sym h.numbers)
         (numbered_at (IsKnown d m.bounds.items) h.state.search.parts h.state.numbers place (nothing_fixed (table_of d)) in_list h.known))
 
-    pub known_here : (p : Partial) (n : ℕ) → p ≡ (slice_index_or o.parts.items place e).partial → n ≡ slice_index o.numbers.items place → IsKnown d m.bounds.items p n
+    pub known_here : (p : Partial) (n : ℕ) → p ≡ (slice_index_or ps place e).partial → n ≡ slice_index ns place → IsKnown d m.bounds.items p n
     known_here p n part number =
         subst (λ q. IsKnown d m.bounds.items q n) (sym part)
-        (subst (λ k. IsKnown d m.bounds.items (slice_index_or o.parts.items place e).partial k) (sym number) known_taken)
+        (subst (λ k. IsKnown d m.bounds.items (slice_index_or ps place e).partial k) (sym number) known_taken)
 
-    module _ (p : Partial) (n : ℕ) (new : Machine) (after : Open) (children : List Part) (part_is : p ≡ (slice_index_or o.parts.items place e).partial)
-        (number_is : n ≡ slice_index o.numbers.items place) (picked : Picks o.parts.items place) (machine : IsMachine d new)
-        (w : IsVisited d Answers m p n new children) (parts : after.parts.items ≡ replaced o.parts.items place children)
-        (numbers : after.numbers.items ≡ replaced o.numbers.items place (numbers_from m.made (length children))) where
+    module _ (p : Partial) (n : ℕ) (new : Machine) (after_ps : List Part) (after_ns : List ℕ) (children : List Part) (part_is : p ≡ (slice_index_or ps place e).partial)
+        (number_is : n ≡ slice_index ns place) (picked : Picks ps place) (machine : IsMachine d new)
+        (w : IsVisited d Answers m p n new children) (parts : after_ps ≡ replaced ps place children)
+        (numbers : after_ns ≡ replaced ns place (numbers_from m.made (length children))) where
       visited : Visit
       visited = record { number = n; partial = p; first = m.made; fate = w.became }
 
@@ -113,7 +111,7 @@ module _ (d : Differences) (Answers : Partial → ℕ → Type 0) (Picks : List 
         next_is = refl;
       }
 
-      pub stepped : IsSearching d Answers Picks new after
+      pub stepped : IsSearching d Answers Picks new after_ps after_ns
       unfolding visited
       stepped =
           let became = fate_of w.became in
@@ -141,9 +139,9 @@ module _ (d : Differences) (Answers : Partial → ℕ → Type 0) (Picks : List 
 
   -- ---- the end
 
-  pub goes_on : (m : Machine) (o : Open) (n : ℕ) → IsSearching d Answers Picks m o → 0 < length o.parts.items → n ≡ length m.log.items →
+  pub goes_on : (m : Machine) (ps : List Part) (ns : List ℕ) (n : ℕ) → IsSearching d Answers Picks m ps ns → 0 < length ps → n ≡ length m.log.items →
       GoesOn (table_of d) (pool_of d) Answers Picks n
-  goes_on m o n h l e = record {
+  goes_on m ps ns n h l e = record {
     state = h.state.search;
     run =
         let z : length m.log.items + 0 ≡ n = omega arith in
@@ -152,8 +150,8 @@ module _ (d : Differences) (Answers : Partial → ℕ → Type 0) (Picks : List 
     open_part = let a = ap length h.parts in let b = length-map h.state.search.parts (part_of (table_of d) (pool_of d)) in omega arith;
   }
 
-  module _ (m : Machine) (o : Open) (zs : BeginsWithZeros (pool_of d)) (table : IsTable (table_of d)) (law : IsLawful (table_of d) Answers)
-      (h : IsSearching d Answers Picks m o) (none : length o.parts.items ≡ 0) where
+  module _ (m : Machine) (ps : List Part) (ns : List ℕ) (zs : BeginsWithZeros (pool_of d)) (table : IsTable (table_of d)) (law : IsLawful (table_of d) Answers)
+      (h : IsSearching d Answers Picks m ps ns) (none : length ps ≡ 0) where
     no_parts : h.state.search.parts ≡ []
     no_parts = nil_from_length h.state.search.parts (let a = ap length h.parts in let b = length-map h.state.search.parts (part_of (table_of d) (pool_of d)) in omega arith)
 
@@ -227,15 +225,15 @@ pub empty : (n : ℕ) (b : Bool) → b ≡ (n == 0) → b ≡ true → n ≡ 0
 empty n b e f = eqb-true n 0 (sym e ∙ f)
 
 module _ {F : Type 0} (post : F → Bor Table → Bor Partial → ℕ → Type 0) (f : F) (Picks : List Part → ℕ → Type 0)
-    (d : Differences) (t : Table) (pool : List (List ℕ)) (table_is : table_of d ≡ t) (pool_is : pool_of d ≡ pool) (m : Machine) (o : Open)
-    (h : IsSearching d (Answered post f (table_of d)) Picks m o) where
-  pub goes_on_in : (n : ℕ) → 0 < length o.parts.items → n ≡ length m.log.items → GoesOn t pool (Answered post f t) Picks n
+    (d : Differences) (t : Table) (pool : List (List ℕ)) (table_is : table_of d ≡ t) (pool_is : pool_of d ≡ pool) (m : Machine) (ps : List Part) (ns : List ℕ)
+    (h : IsSearching d (Answered post f (table_of d)) Picks m ps ns) where
+  pub goes_on_in : (n : ℕ) → 0 < length ps → n ≡ length m.log.items → GoesOn t pool (Answered post f t) Picks n
   goes_on_in n l e =
       subst (λ x. GoesOn x pool (Answered post f x) Picks n) table_is
       (subst (λ x. GoesOn (table_of d) x (Answered post f (table_of d)) Picks n) pool_is
-      (goes_on d (Answered post f (table_of d)) Picks m o n h l e))
+      (goes_on d (Answered post f (table_of d)) Picks m ps ns n h l e))
 
-  module _ (pre : F → Bor Table → Bor Partial → Type 0) (table : IsTable t) (zs : BeginsWithZeros pool) (rule : IsRule pre post f) (none : length o.parts.items ≡ 0) where
+  module _ (pre : F → Bor Table → Bor Partial → Type 0) (table : IsTable t) (zs : BeginsWithZeros pool) (rule : IsRule pre post f) (none : length ps ≡ 0) where
     table_of_it : IsTable (table_of d)
     table_of_it = subst IsTable (sym table_is) table
 
@@ -243,10 +241,10 @@ module _ {F : Type 0} (post : F → Bor Table → Bor Partial → ℕ → Type 0
     zeros_of_it = subst BeginsWithZeros (sym pool_is) zs
 
     pub over_in : length m.log.items < 2 ^ 32 → IsOver d m
-    over_in = is_over d (Answered post f (table_of d)) Picks m o zeros_of_it table_of_it (lawful pre post f (table_of d) table_of_it rule) h none
+    over_in = is_over d (Answered post f (table_of d)) Picks m ps ns zeros_of_it table_of_it (lawful pre post f (table_of d) table_of_it rule) h none
 
     pub found_in : (found : Found) → IsCertified d m found → IsFound t pool (Answered post f t) Picks found
     found_in x c =
         subst (λ y. IsFound y pool (Answered post f y) Picks x) table_is
         (subst (λ y. IsFound (table_of d) y (Answered post f (table_of d)) Picks x) pool_is
-        (found d (Answered post f (table_of d)) Picks m o zeros_of_it table_of_it (lawful pre post f (table_of d) table_of_it rule) h none x c))
+        (found d (Answered post f (table_of d)) Picks m ps ns zeros_of_it table_of_it (lawful pre post f (table_of d) table_of_it rule) h none x c))

@@ -1,15 +1,15 @@
 -- The fold of a log, one visit back.
-use Rattle.std.proofs.Common.{◌≡◌, ◌≢◌, ℕ, zero, suc, ◌+◌, ◌-◌, ◌≤◌, ◌<◌, List, [], ◌∷◌, length, take, drop, set, get_or, refl, sym, ap, subst, ◌∙◌, arith, add-one, Option, Some, None}
+use Rattle.std.proofs.Common.{◌≡◌, ◌≢◌, ℕ, zero, suc, ◌+◌, ◌-◌, ◌≤◌, ◌<◌, List, [], ◌∷◌, length, take, drop, set, get_or, refl, sym, ap, subst, ◌∙◌, arith, Option, Some, None}
 use Rattle.std.specs.Prelude.{slice_index, slice_index_or, sum}
 use Rattle.std.proofs.lemmas.List.{drop_more, nil_from_length, get_or_read, length-set, get_or-set_same, get_or-set_other}
 use Rattle.std.proofs.lemmas.List.Sums.{sum_by-cons}
 use Rattle.chisel_table.specs.declared.closing.Close.{Close}
 use Rattle.chisel_table.specs.declared.partial.Partial.{Partial}
 use Rattle.chisel_table.specs.declared.table.Table.{Table}
-use Rattle.chisel_table.specs.Closings.{first_close, rule_closes}
+use Rattle.chisel_table.specs.Closings.{first_close}
 use Rattle.chisel_table.specs.Partials.{nothing_fixed, with_option}
 use Rattle.chisel_table.specs.Soundness.{IsAsGood}
-use Rattle.chisel_table.specs.Sums.{sum_to, list_to}
+use Rattle.chisel_table.specs.Sums.{sum_to}
 use Rattle.chisel_table.specs.Tables.{option_count}
 use Rattle.chisel_table.proofs.Choices.{as_good_trans, as_good_itself}
 use Rattle.chisel_table.proofs.Closings.{closes_better, first_close_holds, first_close_none}
@@ -18,7 +18,7 @@ use Rattle.chisel_bound.specs.Pool.{BeginsWithZeros}
 use Rattle.chisel_bound.proofs.Lists.{length_listed, listed_at}
 use Rattle.chisel_cert.specs.declared.cert.Node.{Node}
 use Rattle.chisel_cert.specs.Node.{tree_of, trees_of}
-use Rattle.chisel_cert.specs.Tree.{pooled, Tree, leaf, branch, Trees, cons, nodes}
+use Rattle.chisel_cert.specs.Tree.{pooled, leaf, branch, cons, nodes}
 use Rattle.chisel_bound.specs.declared.differences.Differences.{Differences}
 use Rattle.chisel_search.specs.declared.machine.Machine.{Machine}
 use Rattle.chisel_search.specs.declared.visit.Visit.{Visit}
@@ -26,7 +26,7 @@ use Rattle.chisel_search.specs.Fold.{AnyDecision, AnyPlace, InLog, IsBuilt, IsOv
 use Rattle.chisel_search.specs.Logs.{State, Leads, Logged, first_state, state_after, visit_at, fate_of, decision_of, children_by, count_by, numbers_from}
 use Rattle.chisel_search.specs.Machine.{EachNumbered, KeepsAll, best_after, held_options, pool_of, table_of}
 use Rattle.chisel_search.specs.Printed.{IsPrinted, trees_to}
-use Rattle.chisel_search.specs.Search.{Fate, closed, complete, divided, fate, choice_of, children, replaced, unfixed}
+use Rattle.chisel_search.specs.Search.{Fate, closed, complete, divided, fate, children, replaced}
 use Rattle.chisel_search.proofs.Every.{good_after, once_best}
 use Rattle.chisel_search.proofs.Least.{fate_closed, fate_complete}
 use Rattle.chisel_search.proofs.Lists.{EachOf, total, total_listed, total_replaced, total_same}

@@ -10,3 +10,7 @@ pub mod Logs
 pub mod Folding
 pub mod Machines
 pub mod Finding
+pub mod Winners
+pub mod Grown
+pub mod Climbing
+pub mod BestFirst

@@ -1,16 +1,15 @@
 -- What a machine keeps, as its list of bounds grows.
-use Rattle.std.proofs.Common.{◌≡◌, ℕ, zero, suc, true, false, Bool, ◌+◌, ◌-◌, ◌*◌, ◌≤◌, ◌<◌, List, [], ◌∷◌, ◌++◌, length, map, take, drop, get_or, refl, sym, ap, subst, ◌∙◌, arith, append_assoc, add-one, length-append}
-use Rattle.std.specs.Prelude.{slice_index, slice_index_or, slice_range, ◌==◌}
+use Rattle.std.proofs.Common.{◌≡◌, ℕ, zero, suc, true, false, ◌+◌, ◌-◌, ◌*◌, ◌≤◌, ◌<◌, List, [], ◌∷◌, ◌++◌, length, map, take, drop, refl, sym, ap, subst, ◌∙◌, arith, add-one, length-append}
+use Rattle.std.specs.Prelude.{slice_range, ◌==◌}
 use Rattle.std.proofs.Math.Nat.{mul-le-mul_left}
 use Rattle.std.proofs.lemmas.Bool.{eq-eqb, eqb-true}
-use Rattle.std.proofs.lemmas.List.{drop-append-le, take-append-le, drop_at, take_at, length-drop, length-map, get_or-map, get_or_append_left, get_or_push, length_push, get_or-take, length-take-le, append-nil, drop-drop}
+use Rattle.std.proofs.lemmas.List.{drop-append-le, take-append-le, drop_at, take_at, length-drop, length-map, get_or_append_left, get_or_push, length_push, get_or-take, length-take-le, append-nil, drop-drop}
 use Rattle.chisel_table.specs.declared.partial.Partial.{Partial}
 use Rattle.chisel_table.specs.declared.table.Table.{Table}
 use Rattle.chisel_table.specs.Lagrangian.{value}
 use Rattle.chisel_table.specs.Partials.{IsPartial, is_unfixed, nothing_fixed, slot, with_option}
-use Rattle.chisel_table.specs.Sums.{list_to, sum_to}
+use Rattle.chisel_table.specs.Sums.{list_to}
 use Rattle.chisel_table.specs.Tables.{decision_count, option_count}
-use Rattle.chisel_table.specs.Valid.{IsTable}
 use Rattle.chisel_table.proofs.Partials.{fixed_partial}
 use Rattle.chisel_table.proofs.Sums.{by_test, differ, sum_bound}
 use Rattle.chisel_bound.specs.declared.bounds.Bounds.{Bounds}
@@ -18,16 +17,16 @@ use Rattle.chisel_bound.specs.declared.bounds.Kept.{Kept}
 use Rattle.chisel_bound.specs.declared.differences.Differences.{Differences}
 use Rattle.chisel_bound.specs.BoundsAt.{greatest, values}
 use Rattle.chisel_bound.specs.Kept.{IsKept, all_bounds, bounds_of, bounds_with}
-use Rattle.chisel_bound.proofs.Lists.{length_listed, listed_same}
+use Rattle.chisel_bound.proofs.Lists.{listed_same}
 use Rattle.chisel_search.specs.declared.visit.Visit.{Visit}
 use Rattle.chisel_search.specs.Logs.{visit_at, children_by, count_by, numbers_from}
 use Rattle.chisel_search.specs.Machine.{table_of, pool_of, IsKnown, IsVisit, EachNumbered, bounds_to}
 use Rattle.chisel_search.specs.Rules.{IsUnfixed}
-use Rattle.chisel_search.specs.Search.{Fate, closed, complete, divided, children, choice_of, one_if, part_of, parts_of, unfixed}
+use Rattle.chisel_search.specs.Search.{Fate, closed, complete, divided, children, choice_of, one_if, part_of, unfixed}
 use Rattle.std.specs.Prelude.{nat_lt}
 use Rattle.std.proofs.lemmas.Bool.{ltb-true}
 use Rattle.std.proofs.lemmas.Bool.Decides.{nat_tests}
-use Rattle.chisel_search.proofs.Complete.{all_fixed, is_choice}
+use Rattle.chisel_search.proofs.Complete.{all_fixed}
 use Rattle.chisel_search.proofs.Numbered.{numbered_listed}
 
 -- ---- bounds

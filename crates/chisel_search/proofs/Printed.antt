@@ -26,7 +26,7 @@ use Rattle.chisel_search.specs.Printed.{IsPrinted, ArePrinted, trees_to, tree, c
 use Rattle.chisel_search.proofs.Complete.{is_choice, unclosed_meets, unclosed_before}
 
 -- fixing a decision leaves one less
-unfixed_fixed : (t : Table) (p : Partial) (d o : ℕ) → d < decision_count t → is_unfixed p d ≡ true → o < 255 →
+pub unfixed_fixed : (t : Table) (p : Partial) (d o : ℕ) → d < decision_count t → is_unfixed p d ≡ true → o < 255 →
     unfixed t (with_option p d o) + 1 ≡ unfixed t p
 unfixed_fixed t p d o l u s =
     let a = sum_change (decision_count t) (λ k. one_if (is_unfixed (with_option p d o) k)) (λ k. one_if (is_unfixed p k)) d l

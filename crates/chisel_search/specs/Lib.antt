@@ -5,4 +5,6 @@ pub mod Laws
 pub mod Found
 pub mod Logs
 pub mod Machine
+pub mod Tournament
+pub mod BestFirst
 pub mod Fold

@@ -9,7 +9,6 @@ use Rattle.chisel_bound.specs.declared.differences.Differences.{Differences}
 use Rattle.chisel_bound.specs.declared.keeping.Best.{Best}
 use Rattle.chisel_bound.specs.Kept.{AreDifferences, AreRowSums, IsBestKept, IsKept, all_bounds}
 use Rattle.chisel_search.specs.declared.machine.Machine.{Machine}
-use Rattle.chisel_search.specs.declared.open.Open.{Open}
 use Rattle.chisel_search.specs.declared.part.Part.{Part}
 use Rattle.chisel_search.specs.declared.visit.Fate as declared
 use Rattle.chisel_search.specs.declared.visit.Visit.{Visit}
@@ -117,12 +116,12 @@ pub record IsVisited (d : Differences) (Answers : Partial → ℕ → Type 0) (o
 -- ---- the search
 
 -- the machine and the open parts stand where the log leads
-pub record IsSearching (d : Differences) (Answers : Partial → ℕ → Type 0) (Picks : List Part → ℕ → Type 0) (m : Machine) (o : Open) : Type 0 where
+pub record IsSearching (d : Differences) (Answers : Partial → ℕ → Type 0) (Picks : List Part → ℕ → Type 0) (m : Machine) (ps : List Part) (ns : List ℕ) : Type 0 where
   pub machine : IsMachine d m
   pub state : State
   pub logged : Logged (table_of d) (pool_of d) Answers Picks m.log.items (length m.log.items) state
-  pub parts : o.parts.items ≡ parts_of (table_of d) (pool_of d) state.search.parts
-  pub numbers : o.numbers.items ≡ state.numbers
+  pub parts : ps ≡ parts_of (table_of d) (pool_of d) state.search.parts
+  pub numbers : ns ≡ state.numbers
   pub made : m.made ≡ state.made
   pub best : held_options m.best ≡ state.search.best
   pub known : EachNumbered (IsKnown d m.bounds.items) state.search.parts state.numbers

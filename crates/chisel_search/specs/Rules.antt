@@ -1,5 +1,5 @@
 -- What a rule and a pick answer, told by the facts of their closures.
-use Rattle.std.specs.Prelude.{ℕ, true, ◌≡◌, ◌<◌, List, length}
+use Rattle.std.specs.Prelude.{ℕ, true, ◌≡◌, ◌<◌, List, length, map, slice_index_or, ℤ, pos, ◌<ℤ◌, ◌≤ℤ◌}
 use Rattle.std.specs.Borrow.{Bor}
 use Rattle.chisel_table.specs.declared.partial.Partial.{Partial}
 use Rattle.chisel_table.specs.declared.table.Table.{Table}
@@ -42,3 +42,15 @@ pub record Picked {G : Type 0} (post : G → Bor (List Part) → ℕ → Type 0)
   pub list : Bor (List Part)
   pub list_is : list.now ≡ ps
   pub post_holds : post g list k
+
+-- ---- best first
+
+-- the value of the part at place k
+abbrev pub value_at : List Part → ℕ → ℤ
+value_at parts k = slice_index_or (map (λ p. p.value) parts) k (pos 0)
+
+-- k is a place of the list, no part has a smaller value, and none before it has the same
+pub record IsFirstLeast (parts : List Part) (k : ℕ) : Type 0 where
+  pub inside : k < length parts
+  pub least : (j : ℕ) → j < length parts → value_at parts k ≤ℤ value_at parts j
+  pub first : (j : ℕ) → j < k → value_at parts k <ℤ value_at parts j

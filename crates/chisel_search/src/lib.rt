@@ -2,6 +2,7 @@
 //! in any order, and the certificate by which its answer is checked without a search.
 #![tactic(auto)]
 
+mod best_first;
 mod certify;
 mod fold;
 mod found;
@@ -11,8 +12,10 @@ mod open;
 mod part;
 mod rule;
 mod run;
+mod tournament;
 mod visit;
 
+pub use best_first::search_best_first;
 pub use found::{Found, SearchFault};
 pub use law::{functions_run_once, rules_certify_once, runs_end, runs_find_least};
 pub use part::Part;

@@ -67,10 +67,12 @@ fn step<F: Fn(&Table, &Partial) -> u32, G: Fn(&[Part]) -> usize>(
     requires rule { IsRule F.pre F.post rule.now }
     requires pick { IsPick G.pre G.post pick.now }
     requires searching { IsSearching differences.now
-        (Answered F.post rule.now (table_of differences.now)) (Picked G.post pick.now) machine.old open_parts.old }
+        (Answered F.post rule.now (table_of differences.now)) (Picked G.post pick.now) machine.old
+        open_parts.old.parts.items open_parts.old.numbers.items }
     requires some { 0 < length open_parts.old.parts.items }
     ensures searching { OnOk result (IsSearching differences.now
-        (Answered F.post rule.now (table_of differences.now)) (Picked G.post pick.now) machine.new open_parts.new) }
+        (Answered F.post rule.now (table_of differences.now)) (Picked G.post pick.now) machine.new
+        open_parts.new.parts.items open_parts.new.numbers.items) }
     ensures visits { OnOk result (length machine.new.log.items ≡ length machine.old.log.items + 1) }
 {
     let place = pick.place(&open_parts.parts);

@@ -7,4 +7,3 @@ pub mod Closings
 pub mod Fixings
 pub mod Steps
 pub mod Grids
-mod Examples

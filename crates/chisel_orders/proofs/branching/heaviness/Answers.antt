@@ -1,4 +1,4 @@
-use Rattle.std.proofs.Common.{arith, sym, ap, ◌∙◌, ◌*◌, ◌^◌, List, ℕ, length}
+use Rattle.std.proofs.Common.{arith, sym, ap, ◌∙◌, List, ℕ, length}
 use Rattle.std.specs.Prelude.{slice_index}
 use Rattle.chisel_table.specs.Sums.{sum_to}
 use Rattle.chisel_table.specs.Tables.{option_count, spent_at}

@@ -1,8 +1,7 @@
-use Rattle.std.proofs.Common.{arith, sym, ap, ◌∙◌, ◌+◌, ◌≡◌, Some}
+use Rattle.std.proofs.Common.{arith, sym, ap, ◌∙◌, ◌≡◌, Some}
 use Rattle.std.specs.Prelude.{slice_index, unwrap_or}
 use Rattle.chisel_table.specs.Partials.{is_unfixed}
 use Rattle.chisel_table.specs.Tables.{decision_count}
-use Rattle.chisel_search.specs.Rules.{IsUnfixed}
 use Rattle.chisel_orders.specs.Branching.{larger, larger_if, largest, largest_to}
 use Rattle.chisel_orders.proofs.Decisions.{largest_none, largest_more, is_largest}
 use Rattle.chisel_orders.proofs.branching.largest.Goals.{then-is_unfixed, else-is_unfixed}

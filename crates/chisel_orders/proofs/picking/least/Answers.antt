@@ -1,6 +1,7 @@
-use Rattle.std.proofs.Common.{arith, sym, ap, ◌∙◌, ◌+◌, ◌-◌, ◌≡◌, ◌≤◌, ◌<◌, int_lt, length, pos}
+use Rattle.std.proofs.Common.{arith, sym, ap, ◌∙◌, ◌+◌, ◌-◌, ◌≡◌, ◌<◌, int_lt, length, pos}
 use Rattle.std.proofs.lemmas.List.{get_or-map}
-use Rattle.chisel_orders.specs.Picking.{value_at, least_to}
+use Rattle.chisel_search.specs.Rules.{value_at}
+use Rattle.chisel_orders.specs.Picking.{least_to}
 use Rattle.chisel_orders.proofs.Places.{least_one, least_next, least_stays, least_inside}
 use Rattle.chisel_orders.proofs.picking.least.Goals.{then-is_less, else-is_less}
 use Rattle.chisel_orders.proofs.picking.least.Goals as goal

@@ -1,12 +1,11 @@
-use Rattle.std.proofs.Common.{rules, sym, ap, ◌∙◌, ◌≡◌, ℕ, List}
+use Rattle.std.proofs.Common.{rules, sym, ◌∙◌, ◌≡◌}
 use Rattle.std.proofs.lemmas.Result.{IfOk-weaker}
 use Rattle.std.specs.Prelude.{slice_index}
-use Rattle.chisel_table.specs.Sums.{list_to}
-use Rattle.chisel_table.specs.Tables.{decision_count}
-use Rattle.chisel_orders.specs.declared.picking.Order.TheVariants.{Best, Deep}
-use Rattle.chisel_orders.specs.Branching.{decision, largest, size}
+use Rattle.chisel_orders.specs.declared.picking.Order.TheVariants.{Deep}
+use Rattle.chisel_orders.specs.Branching.{largest}
 use Rattle.chisel_orders.specs.Picking.{place}
 use Rattle.chisel_orders.proofs.Decisions.{decision_by}
+use Rattle.chisel_orders.proofs.Places.{best_place}
 use Rattle.chisel_orders.proofs.Runs.{found_by, more_by}
 use Rattle.chisel_orders.proofs.strategy.find_least.Goals as goal
 
@@ -41,13 +40,11 @@ returns-clause-found c =
     let t = c.args.t.now in
     let sizes = c.in_ok-sizes.sizes.items in
     let known = c.in_ok-sizes.ensures in
-    IfOk-weaker c.search-in-Best.result _ _ (λ f h. found_by t c.args.pool.now.vectors c.args.strategy _ _
+    IfOk-weaker c.search_best_first.result _ _ (λ f h. found_by t c.args.pool.now.vectors c.args.strategy _ _
     (λ p d a.
     let q : d ≡ largest a.table.now (slice_index sizes) a.partial.now = search rules in
     q ∙ (λ k. largest (a.table_is k) (slice_index sizes) (a.partial_is k)) ∙ decision_by t c.args.strategy.branch sizes p known)
-    (λ parts k a.
-    let q : k ≡ place Best a.list.now = search rules in
-    q ∙ (λ i. place (sym c.in-Best.is i) (a.list_is i))) f c.requires.table h) c.search-in-Best.ensures.found
+    (λ parts k a. best_place parts k a ∙ (λ i. place (sym c.in-Best.is i) parts)) f c.requires.table h) c.search_best_first.ensures.found
 
 pub returns-clause-nodes : goal.returns-clause-nodes
 returns-clause-nodes c =
@@ -58,6 +55,4 @@ returns-clause-nodes c =
     (λ p d a.
     let q : d ≡ largest a.table.now (slice_index sizes) a.partial.now = search rules in
     q ∙ (λ k. largest (a.table_is k) (slice_index sizes) (a.partial_is k)) ∙ decision_by t c.args.strategy.branch sizes p known)
-    (λ parts k a.
-    let q : k ≡ place Best a.list.now = search rules in
-    q ∙ (λ i. place (sym c.in-Best.is i) (a.list_is i))) (c.search-in-Best.ensures.nodes e)
+    (λ parts k a. best_place parts k a ∙ (λ i. place (sym c.in-Best.is i) parts)) (c.search_best_first.ensures.nodes e)

@@ -1,6 +1,5 @@
 use Rattle.std.proofs.Common.{◌≡◌, ◌∙◌, ap, sym, subst, take, arith, length, rules}
 use Rattle.chisel_table.specs.Choices.{IsChoice, energy}
-use Rattle.chisel_search.specs.Search.{choice_of}
 use Rattle.chisel_search.proofs.Complete.{is_choice}
 use Rattle.chisel_search.proofs.Machines.{options_are}
 use Rattle.chisel_search.proofs.machine.best_of.Goals as goal

@@ -5,7 +5,7 @@ use Rattle.chisel_search.proofs.run.search.Given as goal
 
 abbrev pub invariant-loop-machine : goal.invariant-loop-machine
 invariant-loop-machine g l = record {
-  searching : IsSearching l.differences (Answered (goal.F-post g) l.rule (table_of l.differences)) (Picked (goal.G-post g) l.pick) l.machine l.open;
+  searching : IsSearching l.differences (Answered (goal.F-post g) l.rule (table_of l.differences)) (Picked (goal.G-post g) l.pick) l.machine l.open.parts.items l.open.numbers.items;
   few : length l.machine.log.items ≤ l.nodes;
 }
 

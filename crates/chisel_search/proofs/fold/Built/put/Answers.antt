@@ -4,8 +4,7 @@ use Rattle.chisel_cert.specs.declared.cert.Mark.TheVariants.{Pool}
 use Rattle.chisel_cert.specs.Node.{trees_of}
 use Rattle.chisel_cert.specs.Tree.{branch}
 use Rattle.chisel_cert.proofs.Nodes.{tree_of-Branch, tree_of-Leaf}
-use Rattle.chisel_table.specs.Tables.{option_count}
-use Rattle.chisel_search.specs.Fold.{IsPut, child_count, children_in}
+use Rattle.chisel_search.specs.Fold.{IsPut, child_count}
 use Rattle.chisel_search.specs.Logs.{count_by, decision_of, fate_of}
 use Rattle.chisel_search.proofs.Folding.{put_is}
 use Rattle.chisel_search.proofs.fold.Built.put.Goals as goal

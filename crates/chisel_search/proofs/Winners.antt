@@ -1,0 +1,158 @@
+-- Who wins among some parts: the first of the least value.
+use Rattle.std.proofs.Common.{◌≡◌, true, false, ℕ, zero, suc, ◌<◌, List, [], ◌∷◌, ◌++◌, length, map, refl, sym, ap, subst, ◌∙◌, arith, Option, Some, None}
+use Rattle.std.specs.Prelude.{slice_index, int_lt}
+use Rattle.std.proofs.lemmas.Int.{ints}
+use Rattle.std.proofs.lemmas.List.{get_or-map, length-map, map-append}
+use lib.IntN.{ℤ, pos}
+use lib.Signed.{◌≤ℤ◌, ◌<ℤ◌}
+use Rattle.chisel_table.specs.Sums.{list_to}
+use Rattle.chisel_table.proofs.Sums.{by_test, int_below, int_above, is_int_below}
+use Rattle.chisel_search.specs.declared.part.Part.{Part}
+use Rattle.chisel_search.specs.declared.tournament.Entrant.{Entrant}
+use Rattle.chisel_search.specs.Rules.{IsFirstLeast, value_at}
+use Rattle.chisel_search.specs.Tournament.{part_at, entrant, better, best, gathered}
+
+-- ---- the better of two
+
+not_below : (a b : ℤ) → b ≤ℤ a → int_lt a b ≡ false
+not_below a b l = by_test (int_lt a b) (λ e. absurd (let m = int_below a b e in grind (arith, ints))) (λ e. e)
+
+better_none : (x : Option Entrant) → better x None ≡ x
+better_none None = refl
+better_none (Some x) = refl
+
+takes_second : (x y : Entrant) → int_lt y.value x.value ≡ true → better (Some x) (Some y) ≡ Some y
+takes_second x y e = rw e refl
+
+takes_first : (x y : Entrant) → int_lt y.value x.value ≡ false → better (Some x) (Some y) ≡ Some x
+takes_first x y e = rw e refl
+
+pub better_assoc : (x y z : Option Entrant) → better (better x y) z ≡ better x (better y z)
+better_assoc None y z = refl
+better_assoc (Some x) None z = refl
+better_assoc (Some x) (Some y) None = better_none (better (Some x) (Some y))
+better_assoc (Some x) (Some y) (Some z) =
+    by_test (int_lt y.value x.value)
+    (λ e. by_test (int_lt z.value y.value)
+    (λ f. let g : int_lt z.value x.value ≡ true = is_int_below z.value x.value (let a = int_below y.value x.value e in let b = int_below z.value y.value f in grind (arith, ints)) in
+    ap (λ u. better u (Some z)) (takes_second x y e) ∙ takes_second y z f ∙ sym (ap (better (Some x)) (takes_second y z f) ∙ takes_second x z g))
+    (λ f. ap (λ u. better u (Some z)) (takes_second x y e) ∙ takes_first y z f ∙ sym (ap (better (Some x)) (takes_first y z f) ∙ takes_second x y e)))
+    (λ e. by_test (int_lt z.value y.value)
+    (λ f. ap (λ u. better u (Some z)) (takes_first x y e) ∙ sym (ap (better (Some x)) (takes_second y z f)))
+    (λ f. let g : int_lt z.value x.value ≡ false = not_below z.value x.value (let a = int_above y.value x.value e in let b = int_above z.value y.value f in grind (arith, ints)) in
+    ap (λ u. better u (Some z)) (takes_first x y e) ∙ takes_first x z g ∙ sym (ap (better (Some x)) (takes_first y z f) ∙ takes_first x y e)))
+
+pub best_append : (xs ys : List (Option Entrant)) → best (xs ++ ys) ≡ better (best xs) (best ys)
+best_append [] ys = refl
+best_append (x ∷ xs) ys = ap (better x) (best_append xs ys) ∙ sym (better_assoc x (best xs) (best ys))
+
+pub best_push : (xs : List (Option Entrant)) (x : Option Entrant) → best (xs ++ x ∷ []) ≡ better (best xs) x
+best_push xs x = best_append xs (x ∷ []) ∙ ap (better (best xs)) (better_none x)
+
+-- ---- of some numbers
+
+abbrev pub entrants : List Part → List ℕ → List (Option Entrant)
+entrants ps ns = map (λ n. Some (entrant ps n)) ns
+
+pub best_gathered : (ps : List Part) (n : ℕ) (f : ℕ → List ℕ) (w : ℕ → Option Entrant) → ((o : ℕ) → o < n → w o ≡ best (entrants ps (f o))) →
+    best (list_to n w) ≡ best (entrants ps (gathered n f))
+unfolding list_to
+best_gathered ps zero f w h = refl
+best_gathered ps (suc n) f w h =
+    best_push (list_to n w) (w n)
+    ∙ (λ i. better (best_gathered ps n f w (λ o l. h o (omega arith)) i) (h n (omega arith) i))
+    ∙ sym (best_append (entrants ps (gathered n f)) (entrants ps (f n)))
+    ∙ sym (ap best (map-append (λ n. Some (entrant ps n)) (gathered n f) (f n)))
+
+-- ---- the first of the least value
+
+abbrev value_of : List Part → List ℕ → ℕ → ℤ
+value_of ps ns j = (part_at ps (slice_index ns j)).value
+
+pub record IsFirst (ps : List Part) (ns : List ℕ) (e : Entrant) (k : ℕ) : Type 0 where
+  pub inside : k < length ns
+  pub entrant_is : entrant ps (slice_index ns k) ≡ e
+  pub least : (j : ℕ) → j < length ns → e.value ≤ℤ (part_at ps (slice_index ns j)).value
+  pub first : (j : ℕ) → j < k → e.value <ℤ (part_at ps (slice_index ns j)).value
+
+none_wins : (ps : List Part) (ns : List ℕ) → best (entrants ps ns) ≡ None → ns ≡ []
+none_wins ps [] h = refl
+none_wins ps (n ∷ ns) h = go (best (entrants ps ns)) h
+  where
+    go : (r : Option Entrant) → better (Some (entrant ps n)) r ≡ None → n ∷ ns ≡ []
+    go None e = absurd (let q = e in cc)
+    go (Some y) e = by_test (int_lt y.value (entrant ps n).value)
+        (λ t. absurd (let q : ◌≡◌ {A = Option Entrant} (Some y) None = rw t at e in cc))
+        (λ t. absurd (let q : ◌≡◌ {A = Option Entrant} (Some (entrant ps n)) None = rw t at e in cc))
+
+pub no_winner : (ps : List Part) (ns : List ℕ) → best (entrants ps ns) ≡ None → length ns ≡ 0
+no_winner ps ns h = ap length (none_wins ps ns h)
+
+alone : (ps : List Part) (n : ℕ) (e : Entrant) → entrant ps n ≡ e → IsFirst ps (n ∷ []) e 0
+alone ps n e q = record {
+  inside = omega arith;
+  entrant_is = q;
+  least = λ j l. let z : j ≡ 0 = omega arith in let v = ap (λ x. x.value) q in rw z (grind (arith, ints));
+  first = λ j l. absurd (omega arith);
+}
+
+later : (ps : List Part) (n : ℕ) (ns : List ℕ) (e : Entrant) (k : ℕ) → IsFirst ps ns e k → e.value <ℤ (part_at ps n).value → IsFirst ps (n ∷ ns) e (suc k)
+later ps n ns e k h l = record {
+  inside = let i = h.inside in omega arith;
+  entrant_is = h.entrant_is;
+  least = λ j m. least_at j m;
+  first = λ j m. first_at j m;
+}
+  where
+    least_at : (j : ℕ) → j < length (n ∷ ns) → e.value ≤ℤ (part_at ps (slice_index (n ∷ ns) j)).value
+    least_at zero m = grind (arith, ints)
+    least_at (suc j) m = h.least j (omega arith)
+
+    first_at : (j : ℕ) → j < suc k → e.value <ℤ (part_at ps (slice_index (n ∷ ns) j)).value
+    first_at zero m = l
+    first_at (suc j) m = h.first j (omega arith)
+
+sooner : (ps : List Part) (n : ℕ) (ns : List ℕ) (e : Entrant) (k : ℕ) → IsFirst ps ns e k → (part_at ps n).value ≤ℤ e.value → IsFirst ps (n ∷ ns) (entrant ps n) 0
+sooner ps n ns e k h l = record {
+  inside = omega arith;
+  entrant_is = refl;
+  least = λ j m. least_at j m;
+  first = λ j m. absurd (omega arith);
+}
+  where
+    least_at : (j : ℕ) → j < length (n ∷ ns) → (part_at ps n).value ≤ℤ (part_at ps (slice_index (n ∷ ns) j)).value
+    least_at zero m = grind (arith, ints)
+    least_at (suc j) m = let a = h.least j (omega arith) in grind (arith, ints)
+
+pub first_of : (ps : List Part) (ns : List ℕ) (e : Entrant) → best (entrants ps ns) ≡ Some e → (k : ℕ) × IsFirst ps ns e k
+first_of ps [] e h = absurd (let q = h in cc)
+first_of ps (n ∷ ns) e h = go (best (entrants ps ns)) refl h (first_of ps ns)
+  where
+    go : (r : Option Entrant) → best (entrants ps ns) ≡ r → better (Some (entrant ps n)) r ≡ Some e
+        → ((y : Entrant) → best (entrants ps ns) ≡ Some y → (k : ℕ) × IsFirst ps ns y k) → (k : ℕ) × IsFirst ps (n ∷ ns) e k
+    go None q w later_ones =
+        let v : entrant ps n ≡ e = cc in
+        (0, subst (λ l. IsFirst ps (n ∷ l) e 0) (sym (none_wins ps ns q)) (alone ps n e v))
+    go (Some y) q w later_ones =
+        let i = later_ones y q in
+        by_test (int_lt y.value (entrant ps n).value)
+        (λ t. let v : ◌≡◌ {A = Option Entrant} (Some y) (Some e) = rw t at w in
+        let u : y ≡ e = cc in
+        (suc i.0, subst (λ x. IsFirst ps (n ∷ ns) x (suc i.0)) u (later ps n ns y i.0 i.1 (int_below y.value (entrant ps n).value t))))
+        (λ t. let v : ◌≡◌ {A = Option Entrant} (Some (entrant ps n)) (Some e) = rw t at w in
+        let u : entrant ps n ≡ e = cc in
+        (0, subst (λ x. IsFirst ps (n ∷ ns) x 0) u (sooner ps n ns y i.0 i.1 (int_above y.value (entrant ps n).value t))))
+
+-- the same told of the parts
+pub is_first_least : (ps : List Part) (ns : List ℕ) (e : Entrant) (k : ℕ) → IsFirst ps ns e k → IsFirstLeast (map (part_at ps) ns) k
+is_first_least ps ns e k h =
+    let size = length-map ns (part_at ps) in
+    let at : (j : ℕ) → j < length ns → value_at (map (part_at ps) ns) j ≡ (part_at ps (slice_index ns j)).value =
+    λ j l. get_or-map (λ p. p.value) (map (part_at ps) ns) j (part_at ps (slice_index ns j)) (pos 0) (omega arith)
+    ∙ ap (λ p. p.value) (get_or-map (part_at ps) ns j 0 (part_at ps (slice_index ns j)) l) in
+    let value_is : (part_at ps (slice_index ns k)).value ≡ e.value = ap (λ x. x.value) h.entrant_is in
+    record {
+      inside = let i = h.inside in omega arith;
+      least = λ j l. let a = h.least j (omega arith) in rw (at k h.inside, at j (omega arith), value_is) a;
+      first = λ j l. let i = h.inside in let a = h.first j l in rw (at k h.inside, at j (omega arith), value_is) a;
+    }

@@ -1,0 +1,28 @@
+use Rattle.std.proofs.Common.{arith, refl, ap, subst, ◌≡◌, ◌<◌, [], length, Some, None}
+use Rattle.std.specs.Prelude.{slice_set}
+use Rattle.std.proofs.lemmas.List.{get_or_read, length-append}
+use Rattle.chisel_table.specs.Sums.{list_to}
+use Rattle.chisel_search.specs.declared.tournament.Knot.{Knot}
+use Rattle.chisel_search.specs.Tournament.{knot_at}
+use Rattle.chisel_search.proofs.Climbing.{HasFresh, fresh_more, fresh_none, grafted}
+use Rattle.chisel_search.proofs.tournament.Tournament.graft.Goals as goal
+
+pub loop-o-init : goal.loop-o-init
+loop-o-init c = fresh_none c.args.self.now c.args.number c.args.children.now
+
+pub loop-o-preserved : goal.loop-o-preserved
+loop-o-preserved c =
+    fresh_more c.args.self.now c.args.number c.args.children.now c.loop-o.o c.loop-o.self c.add.new.self (omega arith) c.loop-o.invariant c.in_ok-add.ensures
+
+pub returns : goal.returns
+returns c =
+    let o : c.loop-o.o ≡ length c.args.children.now = omega arith in
+    let here : c.args.number < length c.loop-o.self.knots.items =
+    let e = ap length c.loop-o.invariant.knots in
+    let a = length-append c.args.self.now.knots.items (list_to c.loop-o.o (λ k. record { parent = c.args.number; family = None })) in
+    let i = c.requires.number.inside in omega arith in
+    let first : c.len-first.result ≡ length c.args.self.now.parts.items = let o = c.args.self.now.parts.ok in omega arith in
+    let parent = ap (λ (k : Knot). k.parent) (get_or_read c.loop-o.self.knots.items c.args.number c.index_mut.result.now here c.index_mut.ensures.value (knot_at [] 0)) in
+    grafted c.args.self.now c.args.number c.args.children.now c.loop-o.self _ c.requires.tournament.shaped c.requires.number.inside
+    (subst (λ o. HasFresh c.args.self.now c.args.number c.args.children.now o c.loop-o.self) o c.loop-o.invariant) refl refl
+    (λ i. slice_set c.loop-o.self.knots.items c.args.number (record { parent = parent i; family = Some (record { first = first i; count = length c.args.children.now }) }))

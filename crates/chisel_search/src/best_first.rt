@@ -1,0 +1,76 @@
+//! The search that takes the first part of the least value, without a walk over the open parts.
+ghost use Rattle.std.specs.Prelude.{◌≡◌, ◌+◌, ◌≤◌, length, Some, IfOk, IsErrOf, OnOk};
+ghost use Rattle.chisel_table.specs.Valid.{IsTable};
+ghost use Rattle.chisel_bound.specs.declared.bounds.TheConstants.{MAX_VECTORS};
+ghost use Rattle.chisel_bound.specs.Pool.{BeginsWithZeros, IsPool};
+ghost use Rattle.chisel_search.specs.declared.found.SearchFault.TheVariants.{Nodes};
+ghost use Rattle.chisel_search.specs.BestFirst.{IsBestFirst};
+ghost use Rattle.chisel_search.specs.Found.{GoesOn, IsFound};
+ghost use Rattle.chisel_search.specs.Machine.{table_of};
+ghost use Rattle.chisel_search.specs.Rules.{Answered, IsFirstLeast, IsRule};
+ghost use Rattle.chisel_search.specs.Tournament.{winning_number};
+
+use crate::certify::certify;
+use crate::found::{Found, SearchFault};
+use crate::machine::Machine;
+use crate::rule::Rule;
+use crate::tournament::Tournament;
+use bumpalo::Bump;
+use chisel_bound::{Differences, Pool};
+use chisel_table::{Partial, Table};
+use std::alloc::{AllocError, Global};
+
+/// The same as `search` with a pick that answers the first place of the least value, and the same visits.
+///
+/// It holds no list for a pick to look at. A visit costs as many steps as there are options in the branches above the part.
+pub fn search_best_first<'a, F: Fn(&Table, &Partial) -> u32>(
+    alloc: Global,
+    arena: &'a Bump,
+    t: &Table,
+    pool: &Pool,
+    rule: &Rule<F>,
+    nodes: u32,
+) -> Result<Found<'a>, SearchFault>
+    requires table { IsTable t.now }
+    requires pool { IsPool t.now pool.now.vectors }
+    requires zeros { BeginsWithZeros pool.now.vectors }
+    requires few { length pool.now.vectors ≤ MAX_VECTORS }
+    requires rule { IsRule F.pre F.post rule.now }
+    ensures found { IfOk result (IsFound t.now pool.now.vectors (Answered F.post rule.now t.now) IsFirstLeast) }
+    ensures visits { IfOk result (λ f. f.visits ≤ nodes) }
+    ensures nodes { IsErrOf result Nodes
+        → GoesOn t.now pool.now.vectors (Answered F.post rule.now t.now) IsFirstLeast nodes }
+{
+    let differences = Differences::new(alloc, t, pool)?;
+    let mut machine = Machine::start(alloc, &differences)?;
+    let mut tournament = Tournament::start(alloc, &differences, &machine.bounds)?;
+    while let Some(number) = tournament.winner() {
+        if machine.log.len() >= nodes as usize {
+            return Err(SearchFault::Nodes);
+        }
+        step(&differences, &mut machine, &mut tournament, rule, number)?;
+    }
+    Ok(certify(alloc, arena, &differences, machine)?)
+}
+
+// Takes the part that wins, and puts its children in its place.
+fn step<F: Fn(&Table, &Partial) -> u32>(
+    differences: &Differences,
+    machine: &mut Machine,
+    tournament: &mut Tournament,
+    rule: &Rule<F>,
+    number: usize,
+) -> Result<(), AllocError>
+    requires rule { IsRule F.pre F.post rule.now }
+    requires searching { IsBestFirst differences.now
+        (Answered F.post rule.now (table_of differences.now)) machine.old tournament.old }
+    requires winner { winning_number tournament.old ≡ Some number }
+    ensures searching { OnOk result (IsBestFirst differences.now
+        (Answered F.post rule.now (table_of differences.now)) machine.new tournament.new) }
+    ensures visits { OnOk result (length machine.new.log.items ≡ length machine.old.log.items + 1) }
+{
+    let partial = tournament.parts[number].partial;
+    let children = machine.visit(differences, rule, number, &partial)?;
+    tournament.replace(number, &children)?;
+    Ok(())
+}
