@@ -37,7 +37,7 @@ module _ (h : Hardware) (hardware : IsHardware h) (k : Kernel) (t : Setting) whe
   NeedsAlone claim cs = AllByRecursion (λ c. IsTrue (is_within c.vars.bits claim.needs.bits)) cs
 
   -- conjuncts within the needs and the budget are enough for the bound
-  all_suffice : (claim : Claim) → claim.bound ≤ S → (cs : List Conj) → AllByRecursion (λ c. length c.counts ≡ labels_of k) cs
+  pub all_suffice : (claim : Claim) → claim.bound ≤ S → (cs : List Conj) → AllByRecursion (λ c. length c.counts ≡ labels_of k) cs
       → NeedsAlone claim cs → AllByRecursion (StaysWithin h k t claim) cs → AllByRecursion (Suffices (rates h k t) claim) cs
   all_suffice claim small [] counted needs stays = tt
   all_suffice claim small (c ∷ cs) counted needs stays = (

@@ -37,7 +37,7 @@ use Rattle.chisel_reread.proofs.MarkTokens.{all_append, marks_are_tokens}
 use Rattle.chisel_reread.proofs.Reread.{reread_as_named}
 
 -- what holds of each that a list maps to
-all_mapped : {X Y : Type 0} (P : Y → Type 0) (f : X → Y) (xs : List X) → AllByRecursion P (map f xs) → AllByRecursion (λ x. P (f x)) xs
+pub all_mapped : {X Y : Type 0} (P : Y → Type 0) (f : X → Y) (xs : List X) → AllByRecursion P (map f xs) → AllByRecursion (λ x. P (f x)) xs
 all_mapped P f [] all = tt
 all_mapped P f (x ∷ xs) all = (all.0, all_mapped P f xs all.1)
 

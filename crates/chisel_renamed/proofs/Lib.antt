@@ -1,0 +1,14 @@
+pub mod Carried
+pub mod CarriedExprs
+pub mod CarriedStmts
+pub mod CarriedUnits
+pub mod Chosen
+pub mod Fitting
+pub mod FunctionNames
+pub mod Meant
+pub mod NoFaults
+pub mod Passed
+pub mod Relinked
+pub mod Reparsed
+pub mod SameKernel
+pub mod SameText
