@@ -11,11 +11,11 @@ use std::rt::Env;
 /// The exit status where the words of the command line can't be had.
 const NO_WORDS: u8 = 9;
 
-/// The words after the program's name.
+/// The words after the program's name; there are none where the system gives no name.
 fn words<R: Env + AllocGlobal>(rt: &R, alloc: Global) -> Option<Vec<Arg>> {
     let mut words = Vec::new(alloc);
     let mut given = env::args(rt).ok()?;
-    given.next()?;
+    let _name = given.next();
     for word in given {
         words.push(Arg::from_string(word)).ok()?;
     }

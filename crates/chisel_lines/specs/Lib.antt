@@ -1,3 +1,8 @@
+pub mod Answers
+pub mod Apart
 pub mod ClaimLines
-pub mod Lines
+pub mod Faults
+pub mod Reasons
+pub mod Refusals
 pub mod SampleLines
+pub mod Statuses

@@ -1,16 +1,21 @@
-//! The printed lines: those of claims, of the functions that are called and of samples, and the words and places of refusals.
-//! The layer above uses them as texts, and puts them into its answer or into a fault's line.
+//! What a line of an answer or of a fault is: its text and its status, each once.
+//! The layers above make answers of the lines of claims and samples, and write the lines of faults.
 #![tactic(auto)]
 
+mod answer;
 mod claim;
+mod fault;
+mod law;
 mod reason;
 mod refusal;
 mod sample;
+mod status;
 
+pub use answer::Answer;
 pub use claim::{callee_line, line};
-pub use reason::{
-    key_text, lack_text, lex_place, lex_reason, name_place, name_reason, parse_place, parse_reason,
-    walk_place, walk_reason, why_text,
-};
-pub use refusal::Refusal;
+pub use fault::Fault;
+pub use law::memory_is_apart;
+pub use reason::{key_text, lack_text, limit_text, reason_text, why_text};
+pub use refusal::{Limit, Reason, Refusal, walk_refusal};
 pub use sample::{SampleEnd, energy_line, sample_lines};
+pub use status::{Grade, Status};

@@ -1,9 +1,6 @@
-pub mod Agreements
-pub mod Claiming
-pub mod Fetchings
-pub mod Headline
 pub mod OneAnswers
-pub mod Readiness
+pub mod Reaching
+pub mod Rewritten
 pub mod Runs
-pub mod Sampling
+pub mod Sources
 pub mod Tellings

@@ -3,17 +3,17 @@ use Rattle.std.proofs.Common.{◌≡◌, ℕ, ◌+◌, ◌<◌, ◌||◌, Bool, 
 use Rattle.std.proofs.lemmas.List.{drop_more, take-append-drop}
 use Rattle.rely_num.specs.Texts.{Bytes}
 use Rattle.std.specs.Prelude.{codes, decimal}
-use Rattle.rely_hard.specs.declared.fault.HardFault.TheVariants.{At}
+use Rattle.chisel_lines.specs.Reasons.{key_text, lack_text, why_text}
+use Rattle.chisel_lines.specs.Refusals.{refusal_line}
+use Rattle.chisel_lines.specs.declared.refusal.Refusal.TheVariants.{Hardware, Inputs}
 use Rattle.rely_hard.specs.declared.fault.HardWhy.{HardWhy}
 use Rattle.rely_hard.specs.declared.fault.Key.{Key}
 use Rattle.chisel_outside.specs.Outside.{Puts}
 use Rattle.chisel_outside.specs.declared.sink.Put.{Put}
 use Rattle.chisel_outside.specs.declared.sink.Put.TheVariants.{All, Failed}
-use Rattle.chisel_top.specs.declared.status.Status.{Status}
-use Rattle.chisel_top.specs.declared.status.Status.TheVariants as status
-use Rattle.rely_inputs.specs.declared.fault.InputFault.TheVariants.{At as Refused}
+use Rattle.chisel_lines.specs.declared.status.Status.{Status}
+use Rattle.chisel_lines.specs.declared.status.Status.TheVariants as status
 use Rattle.rely_inputs.specs.declared.fault.InputWhy.{InputWhy}
-use Rattle.chisel_lines.specs.Lines.{why_text, key_text, hard_line, lack_text, input_line}
 use Rattle.chisel_top.specs.Promises.{Wrote}
 use Rattle.chisel_top.specs.Telling.{joined, Delivers}
 
@@ -71,7 +71,7 @@ nine a b c d e f g h i = simp (append_assoc, append-nil)
 
 -- the line of a refusal, put in nine pieces
 pub refusal_is : (w k o i : Bytes) (why : HardWhy) (key : Key) (outer inner : ℕ) → w ≡ why_text why → k ≡ key_text key → o ≡ decimal outer → i ≡ decimal inner
-    → codes "fault hardware " ++ (w ++ (codes " " ++ (k ++ (codes " " ++ (o ++ (codes " " ++ (i ++ (codes "\n" ++ [])))))))) ≡ hard_line (At why key outer inner)
+    → codes "fault hardware " ++ (w ++ (codes " " ++ (k ++ (codes " " ++ (o ++ (codes " " ++ (i ++ (codes "\n" ++ [])))))))) ≡ refusal_line (Hardware why key outer inner)
 refusal_is w k o i why key outer inner a b c d =
     rw (a, b, c, d) (nine (codes "fault hardware ") (why_text why) (codes " ") (key_text key) (codes " ") (decimal outer) (codes " ") (decimal inner) (codes "\n"))
 
@@ -80,7 +80,7 @@ seven : (a b c d e f g : Bytes) → a ++ (b ++ (c ++ (d ++ (e ++ (f ++ (g ++ [])
 seven a b c d e f g = simp (append_assoc, append-nil)
 
 pub sample_is : (w s v : Bytes) (why : InputWhy) (sample var : ℕ) → w ≡ lack_text why → s ≡ decimal sample → v ≡ decimal var
-    → codes "fault inputs " ++ (w ++ (codes " " ++ (s ++ (codes " " ++ (v ++ (codes "\n" ++ [])))))) ≡ input_line (Refused why sample var)
+    → codes "fault inputs " ++ (w ++ (codes " " ++ (s ++ (codes " " ++ (v ++ (codes "\n" ++ [])))))) ≡ refusal_line (Inputs why sample var)
 sample_is w s v why sample var a b c = rw (a, b, c) (seven (codes "fault inputs ") (lack_text why) (codes " ") (decimal sample) (codes " ") (decimal var) (codes "\n"))
 
 -- and one that ends with a number, in five

@@ -1,145 +1,120 @@
--- What a command finds in its files, knowing nothing of memory or of a device that fails.
-use Rattle.std.specs.Prelude.{ℕ, Bool, nat_lt, min, ◌==◌, List, [], ◌∷◌, length, fold, slice_get, Option, Some, None, option_map, Result, Ok, Err, if◌then◌else◌}
-use Rattle.std.specs.Option.{option_or}
+-- What the words find in contents of their files, and the text and the status that answer it.
+-- It knows nothing of memory, of a fetch that fails, or of a put.
+use Rattle.std.specs.Prelude.{ℕ, List, Option, Some, None, Result, Ok, Err}
 use Rattle.rely_num.specs.Texts.{Bytes}
-use Rattle.rely_num.specs.declared.span.Span.{Span}
-use Rattle.rely_lexer.specs.Tokens.{tokens_of}
-use Rattle.rely_parser.specs.Units.{unit_of}
-use Rattle.rely_tree.specs.Tree.{UnitTree}
-use Rattle.rely_hard.specs.Meaning.{hardware_of}
-use Rattle.rely_kernel.specs.declared.kernel.Kernel.{Kernel}
 use Rattle.rely_kernel.specs.declared.setting.Store.{Store}
-use Rattle.rely_kernel.specs.Machine.{functions}
-use Rattle.rely_kernel.specs.Setting.{marks_of}
-use Rattle.rely_resolve.specs.Linked.{linked_of}
-use Rattle.rely_inputs.specs.Samples.{samples_of}
-use Rattle.chisel_top.specs.declared.ready.Meant.{Meant}
-use Rattle.chisel_top.specs.declared.ready.Ready.{Ready}
-use Rattle.chisel_lines.specs.declared.refusal.Refusal.{Refusal}
-use Rattle.chisel_lines.specs.declared.refusal.Refusal.TheVariants as refusal
+use Rattle.chisel_choose.specs.Answers as choose
+use Rattle.chisel_choose.specs.Promises as choose_promises
+use Rattle.chisel_choose.specs.declared.certified.Asked.{Asked}
+use Rattle.chisel_choose.specs.declared.certified.Asked.TheVariants as certificate
+use Rattle.chisel_front.specs.declared.choosing.Problem.{Problem}
+use Rattle.chisel_front.specs.Choosing.{certificate_work, made_problem, problem_work}
+use Rattle.chisel_front.specs.Front.{closed_work, starts_work}
+use Rattle.chisel_front.specs.Works.{Content, Done, Work, found, opened, ◌then◌}
+use Rattle.chisel_lines.specs.Faults.{Both, IsStop, NoForm, Refused, Stop}
+use Rattle.chisel_lines.specs.declared.refusal.Reason.TheVariants as reason
+use Rattle.chisel_lines.specs.declared.refusal.Refusal.TheVariants.{Source}
+use Rattle.chisel_lines.specs.declared.status.Status.{Status}
+use Rattle.chisel_ready.specs.declared.ready.Ready.{Ready}
+use Rattle.chisel_runs.specs.Answer as runs
+use Rattle.chisel_runs.specs.Calls.{barred_call}
+use Rattle.chisel_verify.specs.Answer as verify
+use Rattle.chisel_verify.specs.Promises as verify_promises
+use Rattle.chisel_top.specs.Rewriting as rewriting
 use Rattle.chisel_words.specs.declared.options.Trials.{Trials}
-use Rattle.chisel_words.specs.Words.{Command, ToVerify, ToRun, form}
+use Rattle.chisel_words.specs.Words.{Certified, Command, Make, Optimise, Simulate, ToCheck, ToMake, ToMigrate, ToOptimise, ToRewrite, ToRun, ToVerify, Verify, form}
 
--- the files by name: their bytes, or none where there is no such file
-abbrev pub Files : Type 0
-Files = Bytes → Option Bytes
-
+-- what each family is asked
 pub data Finding : Type 0 where
-  -- the words are in no form
-  NoForm : Finding
-  -- there is no file of that name
-  Unread : Bytes → Finding
-  -- the file of that name is longer than its limit
-  TooLong : Bytes → ℕ → Finding
-  -- the files are refused
-  Refused : Refusal → Finding
-  -- the claims are judged, and the lines of the functions that are called are wanted or not
-  Judging : Ready → Bool → Finding
-  -- the function is run from these starts, with these trials behind each reliable run
-  Running : Ready → Trials → List Store → Finding
+  -- the claims are judged
+  Judging : verify.Input → Finding
+  -- the function is run
+  Running : runs.Input → Finding
+  -- its kinds and memories are chosen
+  Choosing : choose.Input → Finding
 
--- ---- one step after another
+-- ---- the order of work
 
-infixl 10 ◌>>=◌
-abbrev pub ◌>>=◌ : {A B E : Type 0} → Result A E → (A → Result B E) → Result B E
-Ok a >>= f = f a
-Err e >>= f = Err e
-
--- a fault as a refusal
-abbrev pub refused_by : {A E : Type 0} → (E → Refusal) → Result A E → Result A Refusal
-refused_by as_refusal (Ok a) = Ok a
-refused_by as_refusal (Err e) = Err (as_refusal e)
-
--- a refusal as a finding
-abbrev pub found_by : {A : Type 0} → Result A Refusal → Result A Finding
-found_by (Ok a) = Ok a
-found_by (Err r) = Err (Refused r)
-
--- ---- files
-
--- the last length of a source and of a hardware file, in bytes
-abbrev pub longest : ℕ
-longest = 65536
-
--- and that of sample inputs
-abbrev pub longest_inputs : ℕ
-longest_inputs = 1048576
-
--- the bytes of the file of that name
-abbrev pub opened : Bytes → ℕ → Option Bytes → Result Bytes Finding
-opened name limit None = Err (Unread name)
-opened name limit (Some bytes) = if nat_lt limit (length bytes) then Err (TooLong name limit) else Ok bytes
-
--- ---- what a source means on a hardware
-
--- the tree of the bytes of a source
-abbrev pub unit_in : Bytes → Result UnitTree Refusal
-unit_in text = refused_by refusal.Lex (tokens_of text) >>= λ tokens. refused_by refusal.Parse (unit_of text tokens)
-
--- the earlier of two places
-abbrev pub earlier : Option ℕ → Span → Option ℕ
-earlier None mark = Some mark.from
-earlier (Some place) mark = Some (min place mark.from)
-
--- the least place of an open kind or memory
-abbrev pub open_place : Kernel → Option ℕ
-open_place k = fold earlier None (marks_of k)
-
--- that of the first function that has one
-abbrev pub open_place_in : List Kernel → Option ℕ
-open_place_in [] = None
-open_place_in (k ∷ ks) = option_or (open_place k) (open_place_in ks)
-
--- no place is open
-abbrev pub unless_open : {A : Type 0} → Option ℕ → A → Result A Refusal
-unless_open None a = Ok a
-unless_open (Some place) a = Err (refusal.Mark place)
-
--- the function with those that it reaches, on the hardware of these bytes
-abbrev pub meant_in : UnitTree → Bytes → Bytes → Result Meant Refusal
-meant_in unit function bytes =
-    refused_by refusal.Hardware (hardware_of bytes) >>= λ h.
-    refused_by refusal.Name (linked_of unit function h) >>= λ l.
-    unless_open (open_place_in (functions l)) (record { hardware = h; linked = l })
-
--- the source is read before the hardware
-abbrev pub meant_of : Bytes → Bytes → Bytes → Files → Result Meant Finding
-meant_of text hardware function files =
-    found_by (unit_in text) >>= λ unit. opened hardware longest (files hardware) >>= λ bytes. found_by (meant_in unit function bytes)
-
-abbrev pub ready_by : Bytes → Meant → Ready
-ready_by text m = record { text = text; hardware = m.hardware; linked = m.linked }
-
-abbrev pub ready_of : Bytes → Bytes → Bytes → Files → Result Ready Finding
-ready_of source hardware function files =
-    opened source longest (files source) >>= λ text. meant_of text hardware function files >>= λ m. Ok (ready_by text m)
-
--- ---- what is found
-
--- the place of the first call of a function, where trials are asked of it
-abbrev pub barred_call : Trials → Kernel → Option ℕ
-barred_call trials k = if trials.count == 0 then None else option_map (λ site. site.mark.from) (slice_get k.calls 0)
-
-abbrev pub unless_barred : {A : Type 0} → Option ℕ → A → Result A Refusal
+-- no call bars the trials
+abbrev pub unless_barred : {A : Type 0} → Option ℕ → A → Result A Stop
 unless_barred None a = Ok a
-unless_barred (Some place) a = Err (refusal.Trials place)
+unless_barred (Some place) a = Err (Refused (Some (Source reason.Trials place)))
 
--- the sample inputs of these bytes
-abbrev pub starts_in : Kernel → Bytes → Result (List Store) Refusal
-starts_in k bytes = refused_by refusal.Inputs (samples_of k bytes)
+abbrev pub unbarred : Trials → Ready → Result Ready Stop
+unbarred trials r = unless_barred (barred_call trials r.linked.kernel) r
 
-abbrev pub either : Result Finding Finding → Finding
-either (Ok f) = f
-either (Err f) = f
+abbrev pub judging : Verify → Ready → Work Finding
+judging v r = Done (Ok (Judging (verify.asked r v.callees)))
 
-abbrev pub asked : Option Command → Files → Finding
-asked None files = NoForm
-asked (Some (ToVerify v)) files = either (ready_of v.source v.hardware v.function files >>= λ r. Ok (Judging r v.callees))
-asked (Some (ToRun w)) files =
-    either (ready_of w.source w.hardware w.function files >>= λ r.
-    found_by (unless_barred (barred_call w.trials r.linked.kernel) r) >>= λ r.
-    opened w.inputs longest_inputs (files w.inputs) >>= λ bytes.
-    found_by (starts_in r.linked.kernel bytes) >>= λ starts. Ok (Running r w.trials starts))
+abbrev pub running_from : Simulate → Ready → List Store → Work Finding
+running_from w r starts = Done (Ok (Running (runs.asked r w.trials starts)))
 
-abbrev pub finding : List Bytes → Files → Finding
-finding words files = asked (form words) files
+abbrev pub inputs_of : Simulate → Ready → Work Finding
+inputs_of w r = starts_work r.linked.kernel w.inputs then running_from w r
+
+abbrev pub running : Simulate → Ready → Work Finding
+running w r = Done (unbarred w.trials r) then inputs_of w
+
+abbrev pub choosing : choose.Job → Problem → Work Finding
+choosing job p = Done (Ok (Choosing (choose.given p.ready p.starts job)))
+
+abbrev pub optimise_work : Optimise → Work Finding
+optimise_work w = problem_work w.source w.hardware w.inputs w.function then choosing (choose.Optimise w.search)
+
+abbrev pub certifying : Asked → Problem → Bytes → Work Finding
+certifying what p text = choosing (choose.Certify what text) p
+
+abbrev pub certificate_of : Asked → Certified → Problem → Work Finding
+certificate_of what w p = certificate_work w.certificate then certifying what p
+
+abbrev pub certified_work : Asked → Certified → Work Finding
+certified_work what w = problem_work w.source w.hardware w.inputs w.function then certificate_of what w
+
+-- a made problem takes no files
+abbrev pub make_work : Make → Work Finding
+make_work m = Done (made_problem m.size m.number) then choosing choose.Measure
+
+-- the files of the words, one after another, up to what the family is asked
+abbrev pub work_of : Option Command → Work Finding
+work_of None = Done (Err NoForm)
+work_of (Some (ToVerify v)) = closed_work v.source v.hardware v.function then judging v
+work_of (Some (ToOptimise w)) = optimise_work w
+work_of (Some (ToCheck w)) = certified_work certificate.Check w
+work_of (Some (ToRewrite w)) = certified_work certificate.Rewrite w
+work_of (Some (ToMigrate w)) = certified_work certificate.Migrate w
+work_of (Some (ToRun w)) = closed_work w.source w.hardware w.function then running w
+work_of (Some (ToMake w)) = make_work w
+
+-- what is found in contents of the files that the words name, in order
+abbrev pub finding : List Bytes → List Content → Result Finding Stop
+finding words got = found (work_of (form words)) got
+
+-- the names that are opened for these contents
+abbrev pub opened_for : List Bytes → List Content → List Bytes
+opened_for words got = opened (work_of (form words)) got
+
+-- ---- answers
+
+-- the text and the status that answer it
+abbrev pub IsAnswer : Result Finding Stop → Bytes → Status → Type 0
+IsAnswer (Ok (Judging i)) text s = verify.IsAnswer i text s
+IsAnswer (Ok (Running i)) text s = runs.IsAnswer i text s
+IsAnswer (Ok (Choosing i)) text s = choose.IsAnswer i text s
+IsAnswer (Err stop) text s = IsStop stop text s
+
+-- there is at most one
+abbrev pub OneAnswer : Type 0
+OneAnswer = (f : Result Finding Stop) (text text' : Bytes) (s s' : Status) → IsAnswer f text s → IsAnswer f text' s' → Both text s text' s'
+
+-- what a family is asked is of a source that means something, and its places are open or not as the command wants them
+abbrev pub IsSound : Finding → Type 0
+IsSound (Judging i) = verify_promises.IsInput i
+IsSound (Running i) = runs.IsInput i
+IsSound (Choosing i) = choose_promises.IsInput i
+
+-- what the lines of its answer promise of runs on unreliable hardware
+abbrev pub Promise : Result Finding Stop → Type 0
+Promise (Ok (Judging i)) = verify_promises.Promise i
+Promise (Ok (Running i)) = Unit {0}
+Promise (Ok (Choosing i)) = choose_promises.Promise i × rewriting.Promise i
+Promise (Err stop) = Unit {0}

@@ -1,9 +1,5 @@
-pub mod Answer
-pub mod Courses
 pub mod Findings
+pub mod Outcomes
 pub mod Promises
-pub mod Simulations
-pub mod Statuses
-pub mod Steps
+pub mod Rewriting
 pub mod Telling
-pub mod Verdicts

@@ -2,9 +2,9 @@
 use Rattle.std.specs.Prelude.{ℕ, ◌≡◌, List, [], ◌∷◌, ◌++◌, Option, ◌⊎◌}
 use Rattle.std.specs.Borrow.{Bor}
 use Rattle.rely_num.specs.Texts.{Bytes}
+use Rattle.chisel_lines.specs.declared.status.Status.{Status}
+use Rattle.chisel_lines.specs.declared.status.Status.TheVariants as status
 use Rattle.chisel_outside.specs.Outside.{Rose}
-use Rattle.chisel_top.specs.declared.status.Status.{Status}
-use Rattle.chisel_top.specs.declared.status.Status.TheVariants as status
 use Rattle.chisel_top.specs.Promises.{Wrote, WroteFront}
 
 -- the pieces as one text

@@ -6,7 +6,7 @@ use Rattle.std.proofs.lemmas.Bool.{leb-true, le-leb}
 use Rattle.std.proofs.lemmas.Fmt.{decimal_is_IsNumeral, parse-decimal}
 use Rattle.std.proofs.lemmas.Slice.Eq.{bytes_eq-Decides}
 use Rattle.rely_num.specs.Texts.{Bytes, same_text}
-use Rattle.chisel_words.specs.Words.{number_up_to}
+use Rattle.chisel_words.specs.Numbers.{number_up_to}
 
 -- it is the one whose text is the word
 pub number_is : (last : ℕ) (text : Bytes) (n : ℕ) → n < 2 ^ 64 → n ≤ last → text ≡ decimal n → number_up_to last text ≡ Some n

@@ -1,2 +1,4 @@
 pub mod Asked
+pub mod Numbers
+pub mod Search
 pub mod Words

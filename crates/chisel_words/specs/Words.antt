@@ -1,9 +1,11 @@
 -- The words of a command line.
-use Rattle.std.specs.Prelude.{ℕ, Bool, true, false, not, ◌&&◌, ◌==◌, nat_le, List, [], ◌∷◌, codes, decimal, Option, Some, None, option_map, if◌then◌else◌}
+use Rattle.std.specs.Prelude.{ℕ, Bool, true, false, not, ◌&&◌, ◌==◌, ◌≤◌, List, [], ◌∷◌, codes, Option, Some, None, option_map, if◌then◌else◌}
 use Rattle.std.specs.Option.{option_or}
-use Rattle.std.specs.Str.Parse.{digits_value}
 use Rattle.rely_num.specs.Texts.{Bytes, same_text}
 use Rattle.chisel_words.specs.declared.options.Trials.{Trials}
+use Rattle.chisel_words.specs.declared.search.SearchOptions.{SearchOptions}
+use Rattle.chisel_words.specs.Numbers.{number_up_to, number_between}
+use Rattle.chisel_words.specs.Search.{search_of}
 
 -- a file's name or a function's: not empty, and no option
 abbrev pub is_plain : Bytes → Bool
@@ -25,9 +27,35 @@ pub record Simulate : Type 0 where
   pub function : Bytes
   pub trials : Trials
 
+-- what `optimise` is asked
+pub record Optimise : Type 0 where
+  pub source : Bytes
+  pub hardware : Bytes
+  pub inputs : Bytes
+  pub function : Bytes
+  pub search : SearchOptions
+
+-- what the commands are asked that take a certificate
+pub record Certified : Type 0 where
+  pub source : Bytes
+  pub hardware : Bytes
+  pub inputs : Bytes
+  pub function : Bytes
+  pub certificate : Bytes
+
+-- what `make` is asked
+pub record Make : Type 0 where
+  pub size : ℕ
+  pub number : ℕ
+
 pub data Command : Type 0 where
   ToVerify : Verify → Command
+  ToOptimise : Optimise → Command
+  ToCheck : Certified → Command
+  ToRewrite : Certified → Command
+  ToMigrate : Certified → Command
   ToRun : Simulate → Command
+  ToMake : Make → Command
 
 -- ---- options
 
@@ -36,11 +64,6 @@ abbrev pub callees_of : List Bytes → Option Bool
 callees_of [] = Some false
 callees_of (option ∷ []) = if same_text option (codes "--callees") then Some true else None
 callees_of (option ∷ other ∷ more) = None
-
--- the number that the digits write, at most the last one; no other digits write it, so no zero stands before it
-abbrev pub number_up_to : ℕ → Bytes → Option ℕ
-number_up_to last text =
-    if nat_le (digits_value 10 text) last && same_text text (decimal (digits_value 10 text)) then Some (digits_value 10 text) else None
 
 -- --seed and a number
 abbrev pub seed_of : Bytes → Bytes → Option ℕ
@@ -79,13 +102,71 @@ run_form (source ∷ hardware ∷ inputs ∷ function ∷ options) =
     then option_map (λ trials. ToRun (record { source = source; hardware = hardware; inputs = inputs; function = function; trials = trials })) (trials_of options) else None
 run_form _ = None
 
+-- SOURCE HARDWARE INPUTS FUNCTION, and then the options
+abbrev pub optimise_form : List Bytes → Option Command
+optimise_form (source ∷ hardware ∷ inputs ∷ function ∷ options) =
+    if is_plain source && (is_plain hardware && (is_plain inputs && is_plain function))
+    then option_map (λ search. ToOptimise (record { source = source; hardware = hardware; inputs = inputs; function = function; search = search })) (search_of options) else None
+optimise_form _ = None
+
+-- SOURCE HARDWARE INPUTS FUNCTION CERT
+abbrev pub certified_form : List Bytes → Option Certified
+certified_form (source ∷ hardware ∷ inputs ∷ function ∷ certificate ∷ []) =
+    if is_plain source && (is_plain hardware && (is_plain inputs && (is_plain function && is_plain certificate)))
+    then Some (record { source = source; hardware = hardware; inputs = inputs; function = function; certificate = certificate }) else None
+certified_form _ = None
+
+abbrev pub make_by : Option ℕ → Option ℕ → Option Command
+make_by (Some size) (Some number) = Some (ToMake (record { size = size; number = number }))
+make_by (Some size) None = None
+make_by None number = None
+
+-- SIZE NUMBER
+abbrev pub make_form : List Bytes → Option Command
+make_form (size ∷ number ∷ []) = make_by (number_between 1 100 size) (number_up_to 18446744073709551615 number)
+make_form _ = None
+
+-- the commands that take a certificate
+abbrev pub certified_command : Bytes → List Bytes → Option Command
+certified_command command words =
+    if same_text command (codes "check") then option_map ToCheck (certified_form words)
+    else if same_text command (codes "rewrite") then option_map ToRewrite (certified_form words)
+    else if same_text command (codes "migrate") then option_map ToMigrate (certified_form words)
+    else None
+
+abbrev pub command_form : Bytes → List Bytes → Option Command
+command_form command words =
+    if same_text command (codes "verify") then verify_form words
+    else if same_text command (codes "optimise") then optimise_form words
+    else if same_text command (codes "run") then run_form words
+    else if same_text command (codes "make") then make_form words
+    else certified_command command words
+
 abbrev pub form : List Bytes → Option Command
 form [] = None
-form (command ∷ words) =
-    if same_text command (codes "verify") then verify_form words else (if same_text command (codes "run") then run_form words else None)
+form (command ∷ words) = command_form command words
+
+-- a search takes 1 to 100,000 parts, and a made problem has a size from 1 to 100
+abbrev pub KeepsLimits : Command → Type 0
+KeepsLimits (ToVerify v) = Unit {0}
+KeepsLimits (ToOptimise o) = (1 ≤ o.search.nodes) × (o.search.nodes ≤ 100000)
+KeepsLimits (ToCheck c) = Unit {0}
+KeepsLimits (ToRewrite c) = Unit {0}
+KeepsLimits (ToMigrate c) = Unit {0}
+KeepsLimits (ToRun r) = Unit {0}
+KeepsLimits (ToMake m) = (1 ≤ m.size) × (m.size ≤ 100)
+
+-- the files of the commands that take a certificate
+abbrev pub certified_files : Certified → List Bytes
+certified_files c = c.source ∷ c.hardware ∷ c.inputs ∷ c.certificate ∷ []
 
 -- the files that the words name, in the order in which they are fetched
 abbrev pub files_of : Option Command → List Bytes
 files_of None = []
 files_of (Some (ToVerify v)) = v.source ∷ v.hardware ∷ []
+files_of (Some (ToOptimise o)) = o.source ∷ o.hardware ∷ o.inputs ∷ []
+files_of (Some (ToCheck c)) = certified_files c
+files_of (Some (ToRewrite c)) = certified_files c
+files_of (Some (ToMigrate c)) = certified_files c
 files_of (Some (ToRun r)) = r.source ∷ r.hardware ∷ r.inputs ∷ []
+files_of (Some (ToMake m)) = []

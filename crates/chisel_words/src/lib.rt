@@ -2,8 +2,11 @@
 //! The layer above uses `read`, which answers exactly the forms of the definitions.
 #![tactic(auto)]
 
+mod number;
 mod options;
+mod search;
 mod words;
 
 pub use options::Trials;
-pub use words::{Asked, RunWords, VerifyWords, read};
+pub use search::{Branch, Order, SearchOptions};
+pub use words::{Asked, CertifiedWords, MakeWords, OptimiseWords, RunWords, VerifyWords, read};

@@ -1,10 +1,10 @@
 //! The options of the commands.
 
 ghost use Rattle.std.specs.Prelude.{◌≡◌};
-ghost use Rattle.chisel_words.specs.Words.{callees_of, count_of, number_up_to, seed_of, trials_by, trials_of};
+ghost use Rattle.chisel_words.specs.Words.{callees_of, count_of, seed_of, trials_by, trials_of};
 
+use crate::number::number;
 use chisel_outside::Arg;
-use itoa::Buffer;
 
 /// The last number of trials of one sample.
 const MOST_TRIALS: u64 = 1000;
@@ -26,21 +26,6 @@ pub(crate) fn callees(options: &[Arg]) -> Option<bool>
         [] => Some(false),
         [option] if option.as_str() == "--callees" => Some(true),
         _ => None,
-    }
-}
-
-/// A number in decimal digits, with no zero before it, at most `last`.
-fn number(word: &str, last: u64) -> Option<u64>
-    ensures { result ≡ number_up_to last word.now }
-{
-    let Ok(number) = word.parse::<u64>() else {
-        return None;
-    };
-    let mut buffer = Buffer::new();
-    if number <= last && buffer.format(number) == word {
-        Some(number)
-    } else {
-        None
     }
 }
 

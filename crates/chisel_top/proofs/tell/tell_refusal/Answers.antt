@@ -1,10 +1,13 @@
 use Rattle.chisel_top.proofs.tell.tell_refusal.Goals as goal
 
-pub returns-in-Name-clause-delivers : goal.returns-in-Name-clause-delivers
-returns-in-Name-clause-delivers g c = rw (c.in-Name.is, ← c.name_reason.ensures, ← c.name_place.ensures) c.tell_source-in-Name.ensures.delivers
+pub returns-in-Source-clause-delivers : goal.returns-in-Source-clause-delivers
+returns-in-Source-clause-delivers g c = rw (c.in-Source.is, ← c.reason_text.ensures) c.tell_number.ensures.delivers
 
-pub returns-in-Mark-clause-delivers : goal.returns-in-Mark-clause-delivers
-returns-in-Mark-clause-delivers g c = rw c.in-Mark.is c.tell_source-in-Mark.ensures.delivers
+pub returns-in-Hardware-clause-delivers : goal.returns-in-Hardware-clause-delivers
+returns-in-Hardware-clause-delivers g c = rw c.in-Hardware.is c.tell_member.ensures.delivers
 
-pub returns-in-Trials-clause-delivers : goal.returns-in-Trials-clause-delivers
-returns-in-Trials-clause-delivers g c = rw c.in-Trials.is c.tell_source-in-Trials.ensures.delivers
+pub returns-in-Inputs-clause-delivers : goal.returns-in-Inputs-clause-delivers
+returns-in-Inputs-clause-delivers g c = rw c.in-Inputs.is c.tell_sample.ensures.delivers
+
+pub returns-in-Limit-clause-delivers : goal.returns-in-Limit-clause-delivers
+returns-in-Limit-clause-delivers g c = rw (c.in-Limit.is, ← c.limit_text.ensures) c.tell_number-in-Limit.ensures.delivers

@@ -1,0 +1,10 @@
+pub mod Answering
+pub mod Best
+pub mod Early
+pub mod Finding
+pub mod Halting
+pub mod Once
+pub mod Passing
+pub mod Predicates
+pub mod Promising
+pub mod Sampling

@@ -1,0 +1,26 @@
+ghost use Rattle.chisel_choose.specs.Answers.{OneAnswer};
+ghost use Rattle.chisel_choose.specs.Promises.{CheckedIsBest, KeepsPromise, MigratedPasses, PrintedIsBest, PrintedPasses};
+
+/// A law and no work: the choice that is printed, or that a checked certificate has, costs least over the samples of all that
+/// keep the budgets, and under it every claim's bound holds in every forest of runs. Where there is none, none keeps them.
+pub fn answers_are_best()
+    ensures printed { PrintedIsBest }
+    ensures checked { CheckedIsBest }
+{}
+
+/// A law and no work: what `optimise` and `migrate` write passes `check` on the same files.
+pub fn certificates_pass()
+    ensures printed { PrintedPasses }
+    ensures migrated { MigratedPasses }
+{}
+
+/// A law and no work: what is asked has one answer at most.
+pub fn one_answer()
+    ensures { OneAnswer }
+{}
+
+/// A law and no work: what a command promises that ends well. The choice that `optimise` prints is the best, and what it
+/// prints passes `check`; the choice of the certificate that the others are given is the best.
+pub fn good_answers_hold()
+    ensures { KeepsPromise }
+{}

@@ -1,0 +1,5 @@
+pub mod Problems
+pub mod Opening
+pub mod Refusing
+pub mod Steps
+pub mod Working

@@ -1,0 +1,5 @@
+pub mod Reported
+pub mod SameJudgements
+pub mod SamePaths
+pub mod SameVerdicts
+pub mod SameWalks

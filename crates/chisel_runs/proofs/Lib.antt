@@ -1,0 +1,4 @@
+pub mod OneAnswers
+pub mod Runnable
+pub mod Sampling
+pub mod SomeAnswers

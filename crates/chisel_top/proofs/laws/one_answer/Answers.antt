@@ -1,5 +1,0 @@
-use Rattle.chisel_top.proofs.OneAnswers.{one_answer}
-use Rattle.chisel_top.proofs.laws.one_answer.Goals as goal
-
-pub returns : goal.returns
-returns c = one_answer

@@ -1,7 +1,0 @@
-use Rattle.chisel_top.proofs.tell.tell_inputs.Goals as goal
-
-pub returns-in-At-clause-delivers : goal.returns-in-At-clause-delivers
-returns-in-At-clause-delivers g c = rw c.in-At.is c.tell_sample.ensures.delivers
-
-pub returns-in-Memory-clause-delivers : goal.returns-in-Memory-clause-delivers
-returns-in-Memory-clause-delivers g c = rw c.in-Memory.is c.tell_line.ensures.delivers

@@ -1,0 +1,156 @@
+//! The commands: each fetches its files in the order of work, and its family answers.
+
+ghost use Rattle.std.specs.Prelude.{◌≡◌, ◌≤◌, List, ℕ, Option, None, Some, Ok, IfOk, OnOk};
+ghost use Rattle.rely_num.specs.Texts.{Bytes};
+ghost use Rattle.chisel_outside.specs.Outside.{Log};
+ghost use Rattle.chisel_choose.specs.Answers.{given, job_of};
+ghost use Rattle.chisel_choose.specs.Promises.{IsJob};
+ghost use Rattle.chisel_words.specs.Asked.{to_certified, to_make, to_optimise, to_run, to_verify};
+ghost use Rattle.chisel_words.specs.Words.{ToMake, ToOptimise, ToRun, ToVerify};
+ghost use Rattle.chisel_front.specs.Choosing.{IsProblem};
+ghost use Rattle.chisel_front.specs.Works.{Comes, Content};
+ghost use Rattle.chisel_runs.specs.Calls.{barred_call};
+ghost use Rattle.chisel_top.specs.Findings.{Choosing, certified_work, unbarred, work_of};
+ghost use Rattle.chisel_top.specs.Outcomes.{Final, Reaches};
+
+use chisel_choose::{Asked, Task, choose};
+use chisel_front::{Names, Problem, certificate, closed_ready, made, read_problem, starts};
+use chisel_lines::{Answer, Fault, Reason, Refusal};
+use chisel_outside::Shelf;
+use chisel_ready::Ready;
+use chisel_runs::barred_call;
+use chisel_words::{CertifiedWords, MakeWords, OptimiseWords, RunWords, Trials, VerifyWords};
+use std::alloc::Global;
+
+/// The command `verify`.
+pub(crate) fn verify<'w, F: Shelf>(
+    alloc: Global,
+    words: VerifyWords<'w>,
+    shelf: &mut F,
+) -> Result<Answer, Fault<'w>>
+    ensures held { (n : List ℕ) → F.held shelf.new n ≡ F.held shelf.old n }
+    ensures reaches { Reaches (F.held shelf.old) (F.log shelf.old) (F.log shelf.new) (work_of (Some (ToVerify (to_verify words.entry)))) result }
+{
+    let ready = match closed_ready(alloc, words.source, words.hardware, words.function, shelf) {
+        Ok(ready) => ready,
+        Err(fault) => return Err(fault),
+    };
+    match chisel_verify::verify(alloc, &ready, words.callees) {
+        Ok(answer) => Ok(answer),
+        Err(_) => Err(Fault::Memory),
+    }
+}
+
+/// The same back, unless trials are asked of a function that calls another.
+fn unbarred<'w>(trials: Trials, ready: Ready) -> Result<Ready, Fault<'w>>
+    ensures comes { Comes (unbarred trials ready) result }
+    ensures same { IfOk result (λ r. r ≡ ready) }
+    ensures none { OnOk result (barred_call trials ready.linked.kernel ≡ None) }
+{
+    match barred_call(trials, &ready.linked.kernel) {
+        Some(place) => Err(Fault::Refused(Refusal::Source(Reason::Trials, place))),
+        None => Ok(ready),
+    }
+}
+
+/// The command `run`.
+pub(crate) fn simulate<'w, F: Shelf>(
+    alloc: Global,
+    words: RunWords<'w>,
+    shelf: &mut F,
+) -> Result<Answer, Fault<'w>>
+    ensures held { (n : List ℕ) → F.held shelf.new n ≡ F.held shelf.old n }
+    ensures reaches { Reaches (F.held shelf.old) (F.log shelf.old) (F.log shelf.new) (work_of (Some (ToRun (to_run words.entry)))) result }
+{
+    let ready = match closed_ready(alloc, words.source, words.hardware, words.function, shelf) {
+        Ok(ready) => ready,
+        Err(fault) => return Err(fault),
+    };
+    let ready = match unbarred(words.trials, ready) {
+        Ok(ready) => ready,
+        Err(fault) => return Err(fault),
+    };
+    let starts = match starts(alloc, &ready.linked.kernel, words.inputs, shelf) {
+        Ok(starts) => starts,
+        Err(fault) => return Err(fault),
+    };
+    match chisel_runs::run(alloc, &ready, words.trials, starts.as_slice()) {
+        Ok(answer) => Ok(answer),
+        Err(_) => Err(Fault::Memory),
+    }
+}
+
+/// The answer to a task over what a problem says.
+fn chosen<'w>(alloc: Global, problem: &Problem, task: Task<'_>) -> Result<Answer, Fault<'w>>
+    requires problem { IsProblem problem.now }
+    requires job { IsJob (job_of task) }
+    ensures answered { Final (Ok (Choosing (given problem.now.ready problem.now.starts (job_of task.entry)))) result }
+{
+    match choose(alloc, &problem.ready, problem.starts.as_slice(), task) {
+        Ok(answer) => Ok(answer),
+        Err(_) => Err(Fault::Memory),
+    }
+}
+
+/// The command `optimise`.
+pub(crate) fn optimise<'w, F: Shelf>(
+    alloc: Global,
+    words: OptimiseWords<'w>,
+    shelf: &mut F,
+) -> Result<Answer, Fault<'w>>
+    requires nodes { words.search.nodes ≤ 100000 }
+    ensures held { (n : List ℕ) → F.held shelf.new n ≡ F.held shelf.old n }
+    ensures reaches { Reaches (F.held shelf.old) (F.log shelf.old) (F.log shelf.new) (work_of (Some (ToOptimise (to_optimise words.entry)))) result }
+{
+    let names = Names {
+        source: words.source,
+        hardware: words.hardware,
+        inputs: words.inputs,
+        function: words.function,
+    };
+    let problem = match read_problem(alloc, names, shelf) {
+        Ok(problem) => problem,
+        Err(fault) => return Err(fault),
+    };
+    chosen(alloc, &problem, Task::Optimise(words.search))
+}
+
+/// The commands that take a certificate.
+pub(crate) fn certify<'w, F: Shelf>(
+    alloc: Global,
+    words: CertifiedWords<'w>,
+    asked: Asked,
+    shelf: &mut F,
+) -> Result<Answer, Fault<'w>>
+    ensures held { (n : List ℕ) → F.held shelf.new n ≡ F.held shelf.old n }
+    ensures reaches { Reaches (F.held shelf.old) (F.log shelf.old) (F.log shelf.new) (certified_work asked (to_certified words.entry)) result }
+{
+    let names = Names {
+        source: words.source,
+        hardware: words.hardware,
+        inputs: words.inputs,
+        function: words.function,
+    };
+    let problem = match read_problem(alloc, names, shelf) {
+        Ok(problem) => problem,
+        Err(fault) => return Err(fault),
+    };
+    let text = match certificate(alloc, words.certificate, shelf) {
+        Ok(text) => text,
+        Err(fault) => return Err(fault),
+    };
+    chosen(alloc, &problem, Task::Certify(asked, text.as_slice()))
+}
+
+/// The command `make`, which fetches nothing.
+pub(crate) fn measure<'w>(alloc: Global, words: MakeWords) -> Result<Answer, Fault<'w>>
+    requires least { 1 ≤ words.size }
+    requires most { words.size ≤ 100 }
+    ensures { (held : Bytes → Option Content) (log : Log) → Reaches held log log (work_of (Some (ToMake (to_make words)))) result }
+{
+    let problem = match made(alloc, words.size, words.number) {
+        Ok(problem) => problem,
+        Err(fault) => return Err(fault),
+    };
+    chosen(alloc, &problem, Task::Measure)
+}

@@ -1,6 +1,0 @@
-ghost use Rattle.chisel_top.specs.Answer.{OneAnswer};
-
-/// A law and no work: what is found has one text and one status, so that `run`'s report determines both.
-pub fn one_answer()
-    ensures { OneAnswer }
-{}

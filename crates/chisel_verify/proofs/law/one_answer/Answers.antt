@@ -1,0 +1,8 @@
+use Rattle.chisel_verify.proofs.Promising.{has_answer, one_answer}
+use Rattle.chisel_verify.proofs.law.one_answer.Goals as goal
+
+pub returns-clause-some : goal.returns-clause-some
+returns-clause-some c = has_answer
+
+pub returns-clause-only : goal.returns-clause-only
+returns-clause-only c = one_answer

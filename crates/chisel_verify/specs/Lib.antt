@@ -1,0 +1,4 @@
+pub mod Answer
+pub mod Lines
+pub mod Printing
+pub mod Promises
