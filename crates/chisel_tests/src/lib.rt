@@ -2,11 +2,7 @@
 #![tactic(auto)]
 
 #[cfg(test)]
-mod certificates;
-#[cfg(test)]
 mod numbers;
-#[cfg(test)]
-mod optimiser;
 #[cfg(test)]
 mod outside;
 #[cfg(test)]

@@ -1,5 +1,5 @@
 //! A trial against the words of its generator.
-ghost use Rattle.std.specs.Prelude.{◌≡◌, [], ◌∷◌, None, IfOk, pos, true};
+ghost use Rattle.std.specs.Prelude.{◌≡◌, ◌≤◌, ◌^◌, [], ◌∷◌, None, IfOk, pos, true};
 ghost use Rattle.rely_kernel.specs.Bound.{IsStart};
 ghost use Rattle.rely_kernel.specs.Text.{Expr, Stmt, done, ◌then◌, block_of};
 ghost use Rattle.rely_kernel.specs.Valid.{IsValid};
@@ -13,7 +13,7 @@ use rely_machine::RunFault;
 use rely_num::{Atto, List, Op, Span, VarSet};
 use sqlite_items::Boxed;
 use std::alloc::{AllocError, Global};
-use std::test::Fail;
+use std::process::Abort;
 
 const NONE: Span = Span { from: 0, to: 0 };
 
@@ -111,24 +111,33 @@ fn setting(alloc: Global) -> Result<Setting, AllocError> {
     })
 }
 
-// The first word says that the sum is wrong, and the second is what it leaves.
-#[test]
-fn wrong_sum(rt: HostRuntime) -> Result<(), Fail> {
-    let alloc = rt.alloc();
-    let h = read(alloc, HARDWARE).expect(&rt, "a hardware file");
+// The result, the steps and the words of a trial that takes fewer steps than the limit.
+fn tried(
+    rt: &impl Abort,
+    alloc: Global,
+    limit: u64,
+    words: &mut Lcg128Xsl64,
+) -> Result<(i64, u64, u64), RunFault>
+    requires { limit ≤ 2 ^ 63 }
+{
+    let h = read(alloc, HARDWARE).expect(rt, "a hardware file");
     let k = kernel(alloc)?;
     let t = setting(alloc)?;
     let start = start(alloc)?;
     assert!(rt; fits(&k, &h, &t));
+    let tried = trial(alloc, &k, &h, &t, &start, limit, words)?;
+    Ok((tried.store.result, tried.steps, tried.words))
+}
+
+// The first word says that the sum is wrong, and the second is what it leaves.
+#[test]
+fn wrong_sum(rt: HostRuntime) {
+    let alloc = rt.alloc();
     let mut words = Lcg128Xsl64::new(42, 54);
     let mut same = Lcg128Xsl64::new(42, 54);
-    let refused = trial(alloc, &k, &h, &t, &start, 3, &mut words);
-    assert!(rt; matches!(refused, Err(RunFault::Steps)));
-    let tried = trial(alloc, &k, &h, &t, &start, 4, &mut words).expect(&rt, "a trial");
+    assert_eq!(rt; tried(&rt, alloc, 3, &mut words), Err(RunFault::Steps));
     let _first = same.next_word();
-    assert_eq!(rt; tried.store.result, same.next_word().cast_signed());
-    assert_eq!(rt; tried.steps, 3);
-    assert_eq!(rt; tried.words, 2);
+    let wrong = same.next_word().cast_signed();
+    assert_eq!(rt; tried(&rt, alloc, 4, &mut words), Ok((wrong, 3, 2)));
     assert_eq!(rt; words.next_word(), same.next_word());
-    Ok(())
 }

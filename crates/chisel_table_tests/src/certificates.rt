@@ -1,47 +1,24 @@
 //! Certificates for the table of one sum that may be exact, mild or wild, line by line.
-ghost use Rattle.std.specs.Prelude.{◌≡◌, [], ◌∷◌, IfOk};
+ghost use Rattle.std.specs.Prelude.{IfOk};
 ghost use Rattle.chisel_table.specs.Valid.{IsTable};
 
+use crate::kernel::table;
+use crate::texts::{OPEN, SAMPLE, hardware};
 use bumpalo::Bump;
 use chisel_bound::ascent;
 use chisel_cert::{CertFault, CertWhy, read, write};
 use chisel_check::{Answer, CheckWhy, check};
-use chisel_table::{Row, Table};
-use rely_num::List;
+use chisel_table::Table;
 use std::alloc::{AllocError, Global};
+use std::process::Abort;
 use std::test::Fail;
 
-fn one<T: Drop>(alloc: Global, x: T) -> Result<List<T>, AllocError>
-    ensures { IfOk result (λ l. l ≡ x ∷ []) }
-{
-    let mut list = Vec::new(alloc);
-    list.push(x)?;
-    Ok(List::from_vec(list))
-}
-
-fn three(alloc: Global, x: u64, y: u64, z: u64) -> Result<List<u64>, AllocError>
-    ensures { IfOk result (λ l. l ≡ x ∷ y ∷ z ∷ []) }
-{
-    let mut list = Vec::new(alloc);
-    list.push(x)?;
-    list.push(y)?;
-    list.push(z)?;
-    Ok(List::from_vec(list))
-}
-
-// Exact, mild and wild, of which only the wild one spends more than the budget.
-#[tactic(auto, using(crate::proofs::WorkedTable::valid))]
-fn table(alloc: Global) -> Result<Table, AllocError>
+// Of the kinds only the wild one spends more than the budget.
+fn worked(rt: &impl Abort, alloc: Global) -> Result<Table, AllocError>
     ensures { IfOk result IsTable }
 {
-    let energies = three(alloc, 100, 60, 20)?;
-    let spent = three(alloc, 0, 3, 106)?;
-    let spent = one(alloc, spent)?;
-    Ok(Table {
-        fixed: 6,
-        energies: one(alloc, energies)?,
-        rows: one(alloc, Row { budget: 8, spent })?,
-    })
+    let hardware = hardware(alloc, 0)?;
+    Ok(table(rt, alloc, OPEN, hardware.as_slice(), SAMPLE).expect(rt, "a table"))
 }
 
 // Of version 1.
@@ -96,7 +73,7 @@ fn text_of(alloc: Global, lines: &[&[u8]], at: usize, text: &[u8]) -> Result<Vec
 }
 
 #[derive(Clone, Copy, Debug, PartialEq, Eq)]
-enum Found {
+pub(crate) enum Judgement {
     Yes,
     /// A text that is no certificate.
     Text(u32, CertWhy),
@@ -105,52 +82,52 @@ enum Found {
     Memory,
 }
 
-fn judged(alloc: Global, t: &Table, text: &[u8]) -> Found
+pub(crate) fn judged(alloc: Global, t: &Table, text: &[u8]) -> Judgement
     requires { IsTable t.now }
 {
     let arena = Bump::new(alloc);
     match read(alloc, &arena, text) {
         Ok(c) => match check(t, &c) {
-            Answer::Yes => Found::Yes,
-            Answer::No { line, why } => Found::Fails(line, why),
+            Answer::Yes => Judgement::Yes,
+            Answer::No { line, why } => Judgement::Fails(line, why),
         },
-        Err(CertFault::At { line, why }) => Found::Text(line, why),
-        Err(CertFault::Memory) => Found::Memory,
+        Err(CertFault::At { line, why }) => Judgement::Text(line, why),
+        Err(CertFault::Memory) => Judgement::Memory,
     }
 }
 
 // A line of version 1 in the place of one, and what is found.
-const OLD_CHANGES: [(usize, &[u8], Found); 11] = [
-    (0, b"", Found::Yes),
-    (1, b"chisel 9", Found::Text(1, CertWhy::Form)),
-    (3, b"choice 2", Found::Fails(3, CheckWhy::Choice)),
-    (4, b"energy 066", Found::Text(4, CertWhy::Form)),
-    (4, b"energy 67", Found::Fails(4, CheckWhy::Energy)),
-    (6, b"20000", Found::Fails(14, CheckWhy::Leaf)),
-    (8, b"1099511627777", Found::Text(8, CertWhy::Form)),
-    (8, b"54241", Found::Yes),
-    (12, b"b 1 3", Found::Fails(12, CheckWhy::Branch)),
-    (14, b"d own 0", Found::Text(14, CertWhy::Form)),
-    (16, b"end\nend", Found::Text(17, CertWhy::Form)),
+const OLD_CHANGES: [(usize, &[u8], Judgement); 11] = [
+    (0, b"", Judgement::Yes),
+    (1, b"chisel 9", Judgement::Text(1, CertWhy::Form)),
+    (3, b"choice 2", Judgement::Fails(3, CheckWhy::Choice)),
+    (4, b"energy 066", Judgement::Text(4, CertWhy::Form)),
+    (4, b"energy 67", Judgement::Fails(4, CheckWhy::Energy)),
+    (6, b"20000", Judgement::Fails(14, CheckWhy::Leaf)),
+    (8, b"1099511627777", Judgement::Text(8, CertWhy::Form)),
+    (8, b"54241", Judgement::Yes),
+    (12, b"b 1 3", Judgement::Fails(12, CheckWhy::Branch)),
+    (14, b"d own 0", Judgement::Text(14, CertWhy::Form)),
+    (16, b"end\nend", Judgement::Text(17, CertWhy::Form)),
 ];
 
 // The same for version 2.
-const NEW_CHANGES: [(usize, &[u8], Found); 9] = [
-    (0, b"", Found::Yes),
-    (5, b"row 9 3", Found::Fails(5, CheckWhy::Row)),
-    (5, b"row 8 4", Found::Fails(5, CheckWhy::Row)),
-    (5, b"row -0 3", Found::Text(5, CertWhy::Form)),
-    (5, b"row 8 none", Found::Text(5, CertWhy::Form)),
-    (14, b"d own 99", Found::Yes),
-    (16, b"i own 1", Found::Yes),
-    (16, b"i own 0", Found::Fails(16, CheckWhy::Leaf)),
-    (7, b"20000", Found::Fails(15, CheckWhy::Leaf)),
+const NEW_CHANGES: [(usize, &[u8], Judgement); 9] = [
+    (0, b"", Judgement::Yes),
+    (5, b"row 9 3", Judgement::Fails(5, CheckWhy::Row)),
+    (5, b"row 8 4", Judgement::Fails(5, CheckWhy::Row)),
+    (5, b"row -0 3", Judgement::Text(5, CertWhy::Form)),
+    (5, b"row 8 none", Judgement::Text(5, CertWhy::Form)),
+    (14, b"d own 99", Judgement::Yes),
+    (16, b"i own 1", Judgement::Yes),
+    (16, b"i own 0", Judgement::Fails(16, CheckWhy::Leaf)),
+    (7, b"20000", Judgement::Fails(15, CheckWhy::Leaf)),
 ];
 
 #[test]
 fn changed_lines(rt: HostRuntime) -> Result<(), Fail> {
     let alloc = rt.alloc();
-    let t = table(alloc)?;
+    let t = worked(&rt, alloc)?;
     for (at, text, wanted) in OLD_CHANGES {
         let text = text_of(alloc, OLD.as_slice(), at, text)?;
         assert_eq!(rt; judged(alloc, &t, text.as_slice()), wanted);
@@ -165,14 +142,17 @@ fn changed_lines(rt: HostRuntime) -> Result<(), Fail> {
 #[test]
 fn lines_left_out(rt: HostRuntime) -> Result<(), Fail> {
     let alloc = rt.alloc();
-    let t = table(alloc)?;
+    let t = worked(&rt, alloc)?;
     let cut = text_of(alloc, &OLD[..15], 0, b"")?;
     assert_eq!(rt;
         judged(alloc, &t, cut.as_slice()),
-        Found::Text(16, CertWhy::Form)
+        Judgement::Text(16, CertWhy::Form)
     );
     let two = b"chisel 1\nsize 1 1\nchoice 1\nenergy 66\npool 1\n0\ntree 3\nb 0 2\nd 0\nt 0\nend\n";
-    assert_eq!(rt; judged(alloc, &t, two), Found::Fails(8, CheckWhy::Children));
+    assert_eq!(rt;
+        judged(alloc, &t, two),
+        Judgement::Fails(8, CheckWhy::Children)
+    );
     Ok(())
 }
 
@@ -180,7 +160,7 @@ fn lines_left_out(rt: HostRuntime) -> Result<(), Fail> {
 #[test]
 fn too_deep(rt: HostRuntime) -> Result<(), Fail> {
     let alloc = rt.alloc();
-    let t = table(alloc)?;
+    let t = worked(&rt, alloc)?;
     let mut text = Vec::new(alloc);
     text.extend_from_slice(b"chisel 1\nsize 1 1\nchoice none\nenergy none\npool 1\n0\ntree 258\n")?;
     for _ in 0..257 {
@@ -189,7 +169,7 @@ fn too_deep(rt: HostRuntime) -> Result<(), Fail> {
     text.extend_from_slice(b"c 0\nend\n")?;
     assert_eq!(rt;
         judged(alloc, &t, text.as_slice()),
-        Found::Text(264, CertWhy::Deep)
+        Judgement::Text(264, CertWhy::Deep)
     );
     Ok(())
 }
@@ -198,7 +178,7 @@ fn too_deep(rt: HostRuntime) -> Result<(), Fail> {
 #[test]
 fn written_as_read(rt: HostRuntime) -> Result<(), Fail> {
     let alloc = rt.alloc();
-    let t = table(alloc)?;
+    let t = worked(&rt, alloc)?;
     let pool = ascent(alloc, &t)?;
     let third = pool
         .vectors

@@ -1,6 +1,6 @@
-//! Debits of a hardware, and a made problem.
+//! Debits and budgets of a hardware, and a made problem.
 
-use chisel_debit::{debits, debits_of};
+use chisel_debit::{budget, debits, debits_of};
 use chisel_make::make;
 use rely_num::Atto;
 use std::test::Fail;
@@ -24,6 +24,19 @@ fn debits_of_parts(rt: HostRuntime) -> Result<(), Fail> {
     let rights = [Atto::ONE];
     let known = debits_of(alloc, h.base, rights.as_slice())?;
     assert_eq!(rt; known.as_slice(), [0].as_slice());
+    Ok(())
+}
+
+// A bound, and how many steps at the base it allows.
+const BUDGETS: [(&[u8], u32); 4] = [(b"0.99", 10), (b"0.999", 1), (b"0.996004998", 4), (b"1", 0)];
+
+#[test]
+fn budgets(rt: HostRuntime) -> Result<(), Fail> {
+    let h = rely_hard::read(rt.alloc(), HARDWARE).expect(&rt, "a hardware file");
+    for (bound, wanted) in BUDGETS {
+        let bound = Atto::read(bound).expect(&rt, "a bound");
+        assert_eq!(rt; budget(h.base, bound), wanted);
+    }
     Ok(())
 }
 
