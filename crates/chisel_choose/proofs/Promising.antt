@@ -15,16 +15,18 @@ use Rattle.chisel_lines.specs.declared.answer.Answer.TheVariants.{Text, Refused}
 use Rattle.chisel_lines.specs.declared.refusal.Refusal.TheVariants as refusal
 use Rattle.chisel_lines.specs.declared.status.Grade.TheVariants.{Good, Failing, Undecided}
 use Rattle.chisel_lines.specs.declared.status.Status.{Status}
+use Rattle.chisel_lines.specs.declared.status.Status.TheVariants as status
 use Rattle.chisel_lines.specs.declared.status.Status.TheVariants.{Done}
 use Rattle.chisel_ready.specs.declared.ready.Ready.{Ready}
 use Rattle.chisel_words.specs.declared.search.SearchOptions.{SearchOptions}
 use Rattle.chisel_choose.specs.declared.certified.Asked.{Asked}
 use Rattle.chisel_choose.specs.declared.certified.Asked.TheVariants as asked
 use Rattle.chisel_choose.specs.Answers.{Answers, AnswersBy, Certify, Input, IsAnswer, IsCertified, Job, Measure, Optimise, behind_text, grade_of_best, named_in}
-use Rattle.chisel_choose.specs.Promises.{HasBest, IsBestOf, IsJob, KeepsPromise, NamesBest, PrintsBest, Promised}
-use Rattle.chisel_choose.specs.Claims.{early_answer}
+use Rattle.chisel_choose.specs.Promises.{Denied, HasBest, IsBestOf, IsJob, KeepsPromise, NamesBest, PrintsBest, PrintsNone, Promised}
+use Rattle.chisel_choose.specs.Claims.{EndsEarly, early_answer}
 use Rattle.chisel_choose.specs.Searches.{printed}
 use Rattle.chisel_choose.specs.Sound.{IsSound}
+use Rattle.chisel_choose.specs.Tables.{Ends}
 use Rattle.chisel_choose.proofs.Best.{end_is_not_good, least_is_best}
 use Rattle.chisel_choose.proofs.Passing.{migrated_passes, printed_passes, printed_read}
 
@@ -101,11 +103,64 @@ promised r starts (Certify asked.Rewrite given) text sound few h = names_best r 
 promised r starts (Certify asked.Migrate given) text sound few h = (has_best r starts given text asked.Migrate sound h, migrated_passes r starts given text sound h)
 promised r starts Measure text sound few h = tt
 
+-- ---- what says no
+
+-- an answer with which a command says so
+failing_of : (a : Answer) → answer_status a ≡ status.Refused → (text : Bytes) × (a ≡ Text text Failing)
+failing_of (Text text Good) e = absurd (cc)
+failing_of (Text text Failing) e = (text, refl)
+failing_of (Text text Undecided) e = absurd (cc)
+failing_of (Refused (refusal.Source reason place)) e = absurd (cc)
+failing_of (Refused (refusal.Hardware why key outer inner)) e = absurd (cc)
+failing_of (Refused (refusal.Inputs why sample var)) e = absurd (cc)
+failing_of (Refused (refusal.Limit limit number)) e = absurd (cc)
+
+-- before the table is there, only a claim does
+early_end : (r : Ready) (starts : List Store) (text : Bytes) → Ends r starts (Text text Failing) → EndsEarly r (Text text Failing)
+early_end r starts text (inl e) = e
+early_end r starts text (inr (inl e)) = absurd (let q = e.1.1 in cc)
+early_end r starts text (inr (inr (runs, on, outcomes, inl e))) = absurd (let q = e.1 in cc)
+early_end r starts text (inr (inr (runs, on, outcomes, inr e))) = absurd (let q = e.1 in cc)
+
+prints_none : (r : Ready) (starts : List Store) (s : SearchOptions) (text : Bytes) → IsSound r starts → s.nodes ≤ 100000 → AnswersBy r starts (Optimise s) (Text text Failing)
+    → Denied r starts (Optimise s) text
+prints_none r starts s text sound few (inl ends) = inl (early_end r starts text ends)
+prints_none r starts s text sound few (inr (t, comes, inr many)) = absurd (let q = many.1 in cc)
+prints_none r starts s text sound few (inr (t, comes, inl p)) = inr (go p.best refl)
+  where
+    go : (b : Option (List ℕ)) → p.best ≡ b → PrintsNone r starts text
+    go (Some choice) e = absurd (let q = p.answer in let f : grade_of_best p.best ≡ Good = ap grade_of_best e in cc)
+    go None e =
+        let read = printed_read r t s text Failing few comes.valid p in
+        record {
+          certificate = printed t s p.best;
+          read = ap certificate_at read.0 ∙ written_is_read (printed t s p.best) read.1;
+          none = e;
+          best = least_is_best r starts t None sound comes (subst (IsLeast t) e p.finds.least);
+          passes = printed_passes r starts t s text Failing few sound comes p;
+        }
+
+denied : (r : Ready) (starts : List Store) (job : Job) (text : Bytes) → IsSound r starts → IsJob job → AnswersBy r starts job (Text text Failing) → Denied r starts job text
+denied r starts (Optimise s) text sound few h = prints_none r starts s text sound few h
+denied r starts (Certify what given) text sound few h = tt
+denied r starts Measure text sound few h = tt
+
+-- ---- by the status
+
 pub good_answers : (i : Input) (text : Bytes) (s : Status) → IsAnswer i text s → s ≡ Done → Answers i (Text text Good)
 good_answers i text s (a, answers, both) done =
     let good = good_of a (sym both.1 ∙ done) in
     let same : a ≡ Text text Good = good.1 ∙ ap (λ x. Text x Good) (sym (both.0 ∙ ap answer_text good.1)) in
     subst (Answers i) same answers
 
+failing_answers : (i : Input) (text : Bytes) (s : Status) → IsAnswer i text s → s ≡ status.Refused → Answers i (Text text Failing)
+failing_answers i text s (a, answers, both) refused =
+    let failing = failing_of a (sym both.1 ∙ refused) in
+    let same : a ≡ Text text Failing = failing.1 ∙ ap (λ x. Text x Failing) (sym (both.0 ∙ ap answer_text failing.1)) in
+    subst (Answers i) same answers
+
 pub keeps_promise : KeepsPromise
-keeps_promise i input text s h done = promised i.ready i.starts i.job text input.sound input.job (good_answers i text s h done)
+keeps_promise i input = record {
+  well = λ text s h done. promised i.ready i.starts i.job text input.sound input.job (good_answers i text s h done);
+  denied = λ text s h refused. denied i.ready i.starts i.job text input.sound input.job (failing_answers i text s h refused);
+}

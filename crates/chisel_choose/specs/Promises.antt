@@ -1,5 +1,5 @@
 -- What the answers promise: of a printed choice, of a certificate that is accepted, and of the printed text.
-use Rattle.std.specs.Prelude.{ℕ, ◌≡◌, ◌<◌, ◌≤◌, List, length, Option, Some, None, Ok}
+use Rattle.std.specs.Prelude.{ℕ, ◌≡◌, ◌<◌, ◌≤◌, List, length, Option, Some, None, Ok, ◌⊎◌}
 use Rattle.std.specs.List.{AllByRecursion}
 use Rattle.rely_num.specs.Texts.{Bytes}
 use Rattle.rely_kernel.specs.declared.setting.Store.{Store}
@@ -12,9 +12,9 @@ use Rattle.chisel_cert.specs.Tree.{Certificate}
 use Rattle.chisel_lines.specs.declared.answer.Answer.{Answer}
 use Rattle.chisel_lines.specs.declared.answer.Answer.TheVariants.{Text}
 use Rattle.chisel_lines.specs.declared.status.Grade.{Grade}
-use Rattle.chisel_lines.specs.declared.status.Grade.TheVariants.{Good}
+use Rattle.chisel_lines.specs.declared.status.Grade.TheVariants.{Good, Failing}
 use Rattle.chisel_lines.specs.declared.status.Status.{Status}
-use Rattle.chisel_lines.specs.declared.status.Status.TheVariants.{Done}
+use Rattle.chisel_lines.specs.declared.status.Status.TheVariants.{Done, Refused}
 use Rattle.chisel_printed.specs.Laws.{longest_certificate, most_nodes}
 use Rattle.chisel_problem.specs.Least.{IsLeastOf}
 use Rattle.chisel_ready.specs.declared.ready.Ready.{Ready}
@@ -23,6 +23,7 @@ use Rattle.chisel_table.specs.declared.table.Table.{Table}
 use Rattle.chisel_words.specs.declared.search.SearchOptions.{SearchOptions}
 use Rattle.chisel_choose.specs.declared.certified.Asked.TheVariants as asked
 use Rattle.chisel_choose.specs.Answers.{Certify, Input, IsAnswer, IsCertified, Job, Measure, Optimise, PrintsLeast}
+use Rattle.chisel_choose.specs.Claims.{EndsEarly}
 use Rattle.chisel_choose.specs.Lines.{yes}
 use Rattle.chisel_choose.specs.Sound.{IsSound}
 use Rattle.chisel_choose.specs.Tables.{ComesTo}
@@ -106,6 +107,23 @@ Promised r starts (Certify asked.Rewrite given) text = NamesBest r starts given 
 Promised r starts (Certify asked.Migrate given) text = HasBest r starts given × IsCertified r starts text asked.Check yes
 Promised r starts Measure text = Unit {0}
 
+-- ---- what a command promises that says no
+
+-- a text is a certificate without a choice, no choice keeps the budgets, and it passes
+pub record PrintsNone (r : Ready) (starts : List Store) (text : Bytes) : Type 0 where
+  pub certificate : Certificate
+  pub read : certificate_at text ≡ Ok certificate
+  pub none : certificate.choice ≡ None
+  pub best : IsBestOf r starts None
+  pub passes : Passes r starts text
+
+-- `optimise` prints so, or the line of a claim that ends it early
+abbrev pub Denied : Ready → List Store → Job → Bytes → Type 0
+Denied r starts (Optimise s) text = EndsEarly r (Text text Failing) ⊎ PrintsNone r starts text
+Denied r starts job text = Unit {0}
+
+-- ---- commands
+
 -- a search takes no more parts than a certificate has nodes
 abbrev pub IsJob : Job → Type 0
 IsJob (Optimise s) = s.nodes ≤ most_nodes
@@ -115,9 +133,10 @@ pub record IsInput (i : Input) : Type 0 where
   pub sound : IsSound i.ready i.starts
   pub job : IsJob i.job
 
--- so it is where the command ends well
-abbrev pub Promise : Input → Type 0
-Promise i = (text : Bytes) (s : Status) → IsAnswer i text s → s ≡ Done → Promised i.ready i.starts i.job text
+-- what the text promises by the status that comes with it
+pub record Promise (i : Input) : Type 0 where
+  pub well : (text : Bytes) (s : Status) → IsAnswer i text s → s ≡ Done → Promised i.ready i.starts i.job text
+  pub denied : (text : Bytes) (s : Status) → IsAnswer i text s → s ≡ Refused → Denied i.ready i.starts i.job text
 
 abbrev pub KeepsPromise : Type 0
 KeepsPromise = (i : Input) → IsInput i → Promise i

@@ -1,6 +1,5 @@
 -- A valid certificate, written again in the version that is printed, is valid and within the limits.
-use Rattle.std.proofs.Common.{◌≡◌, ℕ, ◌-◌, ◌+◌, ◌≤◌, refl, sym, ◌∙◌, arith, None}
-use Rattle.chisel_table.specs.declared.table.Table.{Table}
+use Rattle.std.proofs.Common.{ℕ, ◌-◌, refl, sym, ◌∙◌, arith, None}
 use Rattle.chisel_table.specs.Tables.{row_count}
 use Rattle.chisel_bound.proofs.Lists.{length_listed, listed_at}
 use Rattle.chisel_cert.specs.Ranges.{AreNodes, IsClosing, IsNode}

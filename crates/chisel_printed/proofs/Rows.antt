@@ -3,7 +3,6 @@ use Rattle.std.proofs.Common.{◌≡◌, ℕ, ◌+◌, List, [], ◌∷◌, ◌+
 use Rattle.chisel_table.specs.declared.table.Table.{Table}
 use Rattle.chisel_table.specs.Sums.{list_to}
 use Rattle.chisel_bound.proofs.Lists.{listed_more, listed_none}
-use Rattle.chisel_cert.specs.declared.cert.Restated.{Restated}
 use Rattle.chisel_cert.specs.Valid.{restated_row}
 
 pub rows_none : (t : Table) (choice : Option (List ℕ)) → list_to 0 (restated_row t choice) ≡ []

@@ -1,5 +1,5 @@
 -- The text of a certificate without vectors of its own is short.
-use Rattle.std.proofs.Common.{◌≡◌, ℕ, zero, suc, ◌+◌, ◌*◌, ◌-◌, ◌^◌, ◌≤◌, ◌<◌, Bool, true, false, List, [], ◌∷◌, ◌++◌, length, refl, ap, ◌∙◌, arith, length-append, Option, Some, None}
+use Rattle.std.proofs.Common.{◌≡◌, ℕ, suc, ◌+◌, ◌*◌, ◌-◌, ◌^◌, ◌≤◌, ◌<◌, Bool, true, false, List, [], ◌∷◌, ◌++◌, length, refl, ap, ◌∙◌, arith, length-append, Option, Some, None}
 use Rattle.std.proofs.lemmas.Int.{ints}
 use Rattle.std.specs.Prelude.{codes, decimal, is_some, pos, neg_ℤ, ◌≤ℤ◌}
 use Rattle.std.specs.Fmt.{signed_decimal}
@@ -11,8 +11,8 @@ use Rattle.chisel_table.specs.declared.closing.CloseRule.{CloseRule}
 use Rattle.chisel_table.specs.declared.closing.CloseRule.TheVariants.{C, I, D, T}
 use Rattle.chisel_cert.specs.declared.cert.Restated.{Restated}
 use Rattle.chisel_cert.specs.Ranges.{AreNodes, IsChosen, IsGiven, IsMultipliers, IsNode, IsRestated, IsWithin, restated_count}
-use Rattle.chisel_cert.specs.Text.{all_lines, branch_line, choice_line, end_line, energy_line, head_lines, leaf_line, letter, listed, node_lines, optional, pool_line, pool_lines, row_line, row_lines, size_line, spaced, table_lines, text_of, tree_line, tree_lines, vector_line, vector_lines, version_line}
-use Rattle.chisel_cert.specs.Tree.{Certificate, Closing, pooled, own, Tree, leaf, branch, Trees, nil, cons, count, nodes, nodes_of}
+use Rattle.chisel_cert.specs.Text.{all_lines, branch_line, choice_line, end_line, energy_line, head_lines, leaf_line, letter, listed, node_lines, optional, pool_line, pool_lines, row_line, row_lines, size_line, spaced, table_lines, tree_line, tree_lines, vector_line, vector_lines, version_line}
+use Rattle.chisel_cert.specs.Tree.{Certificate, pooled, own, Tree, leaf, branch, Trees, nil, cons, count, nodes, nodes_of}
 use Rattle.chisel_printed.specs.Laws.{PooledIsShort}
 use Rattle.chisel_printed.specs.Pooled.{ArePooled, IsPooled}
 use lib.IntN.{ℤ, negsuc}

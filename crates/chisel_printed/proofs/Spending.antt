@@ -1,9 +1,9 @@
 -- A choice that meets the rows spends few debits of each.
-use Rattle.std.proofs.Common.{◌≡◌, ℕ, ◌<◌, ◌≤◌, ◌^◌, List, Some, arith}
+use Rattle.std.proofs.Common.{ℕ, ◌<◌, ◌≤◌, List, Some, arith}
 use Rattle.std.proofs.lemmas.Int.{ints}
 use Rattle.std.specs.Prelude.{pos, ◌≤ℤ◌}
 use Rattle.chisel_table.specs.declared.table.Table.{Table}
-use Rattle.chisel_table.specs.Choices.{IsChoice, Meets, spent}
+use Rattle.chisel_table.specs.Choices.{spent}
 use Rattle.chisel_table.specs.Tables.{budget_at, row_count}
 use Rattle.chisel_table.specs.Valid.{IsTable}
 use Rattle.chisel_cert.specs.Valid.{IsClaimed}

@@ -1,5 +1,5 @@
 -- The certificate of a least choice is within the limits of the text.
-use Rattle.std.proofs.Common.{◌≡◌, ℕ, zero, suc, true, false, Bool, ◌+◌, ◌-◌, ◌≤◌, ◌<◌, List, [], ◌∷◌, length, get_or, refl, sym, ap, ◌∙◌, arith, Option, Some, None}
+use Rattle.std.proofs.Common.{◌≡◌, ℕ, zero, suc, true, false, Bool, ◌+◌, ◌-◌, ◌≤◌, ◌<◌, List, [], ◌∷◌, length, get_or, refl, arith, Option, Some, None}
 use Rattle.std.specs.Prelude.{◌&&◌, is_some}
 use Rattle.std.specs.List.{AllByRecursion}
 use Rattle.std.proofs.lemmas.Bool.{ltb-true}
@@ -7,23 +7,20 @@ use Rattle.chisel_table.specs.declared.closing.CloseRule.{CloseRule}
 use Rattle.chisel_table.specs.declared.closing.CloseRule.TheVariants.{C, I, D, T}
 use Rattle.chisel_table.specs.declared.partial.Partial.{Partial}
 use Rattle.chisel_table.specs.declared.table.Table.{Table}
-use Rattle.chisel_table.specs.Choices.{IsChoice}
 use Rattle.chisel_table.specs.Closings.{rule_closes}
-use Rattle.chisel_table.specs.Least.{IsLeast}
 use Rattle.chisel_table.specs.Partials.{is_unfixed, nothing_fixed, with_option}
 use Rattle.chisel_table.specs.Sums.{list_to, sum_to}
 use Rattle.chisel_table.specs.Tables.{decision_count, option_count, row_count}
 use Rattle.chisel_table.specs.Valid.{IsTable}
 use Rattle.chisel_bound.specs.Pool.{IsPool}
 use Rattle.chisel_bound.proofs.Lists.{length_listed, listed_at}
-use Rattle.chisel_cert.specs.declared.cert.Restated.{Restated}
-use Rattle.chisel_cert.specs.Ranges.{AreNodes, IsChosen, IsGiven, IsMultipliers, IsNode, IsRestated, IsWithin}
-use Rattle.chisel_cert.specs.Tree.{Closing, pooled, own, Tree, leaf, branch, Trees, nil, cons, count}
+use Rattle.chisel_cert.specs.Ranges.{AreNodes, IsChosen, IsGiven, IsMultipliers, IsNode, IsRestated}
+use Rattle.chisel_cert.specs.Tree.{pooled, own, Tree, leaf, branch, Trees, nil, cons, count}
 use Rattle.chisel_cert.specs.Valid.{AreValid, IsClaimed, IsValid, energy_of, restated_row, spent_by}
-use Rattle.chisel_search.specs.Printed.{ArePrinted, IsPrinted, certificate, restated_rows, tree}
+use Rattle.chisel_search.specs.Printed.{ArePrinted, IsPrinted, restated_rows, tree}
 use Rattle.chisel_search.specs.Search.{one_if, rule_of, unfixed}
 use Rattle.chisel_search.proofs.Printed.{certificate_valid, root_printed, unfixed_fixed}
-use Rattle.chisel_printed.specs.Laws.{IsPrintable, PrintedIsPooled, PrintedIsWithin}
+use Rattle.chisel_printed.specs.Laws.{PrintedIsPooled, PrintedIsWithin}
 use Rattle.chisel_printed.specs.Pooled.{ArePooled, IsPooled}
 use Rattle.chisel_printed.proofs.Spending.{spent_small}
 use lib.IntN.{pos}

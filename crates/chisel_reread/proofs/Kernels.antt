@@ -1,5 +1,5 @@
 -- The marks of a kernel are tokens of its source.
-use Rattle.std.proofs.Common.{◌≡◌, ℕ, Bool, true, false, List, [], ◌∷◌, ◌++◌, map, filter_map, drop, length, get_or, Some, ap, sym, ◌∙◌, subst, if◌then◌else◌}
+use Rattle.std.proofs.Common.{◌≡◌, ℕ, Bool, true, false, List, [], ◌∷◌, ◌++◌, map, filter_map, drop, length, get_or, ap, sym, ◌∙◌, subst, if◌then◌else◌}
 use Rattle.std.specs.Prelude.{Contains}
 use Rattle.std.specs.List.{AllByRecursion, cons_option, zip}
 use Rattle.std.proofs.lemmas.List.{append-nil}
@@ -9,7 +9,6 @@ use Rattle.rely_num.specs.declared.span.Span.{Span}
 use Rattle.rely_hard.specs.declared.hardware.Hardware.{Hardware}
 use Rattle.rely_kernel.specs.Choice.{IsChoice}
 use Rattle.rely_kernel.specs.Setting.{open_mark}
-use Rattle.rely_kernel.specs.declared.kernel.Kernel.{Kernel}
 use Rattle.rely_kernel.specs.declared.kernel.Linked.{Linked}
 use Rattle.rely_kernel.specs.declared.kernel.Site.{Site}
 use Rattle.rely_kernel.specs.declared.kernel.Slot.{Slot}
@@ -17,16 +16,15 @@ use Rattle.rely_kernel.specs.declared.kernel.Slot.TheVariants.{Named, Free}
 use Rattle.rely_kernel.specs.declared.kernel.Var.{Var}
 use Rattle.rely_lexer.specs.declared.token.Token.{Token}
 use Rattle.rely_tree.specs.Marks.{decls_marks, function_marks, kind_marks}
-use Rattle.rely_tree.specs.Tree.{DeclTree, FuncTree, KindTree, PlainTree, NamedTree, FreeTree, UnitTree}
+use Rattle.rely_tree.specs.Tree.{DeclTree, FuncTree, KindTree, PlainTree, NamedTree, FreeTree}
 use Rattle.rely_resolve.specs.Kernels.{Done, kernel_of, mark_of, slot_of, var_of}
 use Rattle.rely_resolve.specs.Names.{memory_names}
 use Rattle.rely_resolve.specs.Linked.{nothing_done}
-use Rattle.rely_resolve.specs.Reached.{IsLinkedBy, done_with}
+use Rattle.rely_resolve.specs.Reached.{done_with}
 use Rattle.rely_resolve.proofs.Marked.{kernel_marked}
 use Rattle.rely_resolve.proofs.ValidLinked.{each_at}
 use Rattle.chisel_rewrite.specs.Namings.{is_open, kind_namings, memory_namings, namings, open_sites, open_vars}
 use Rattle.chisel_rewrite.specs.Namings.{mark_of as mark}
-use Rattle.chisel_rewrite.specs.declared.naming.Naming.{Naming}
 use Rattle.chisel_rewrite.specs.declared.naming.Naming.TheVariants.{Kind, Memory}
 use Rattle.chisel_rewrite.proofs.Places.{marks_named}
 use Rattle.chisel_reread.specs.Kernels.{KernelMarksAreTokens, KernelRereadAsNamed}

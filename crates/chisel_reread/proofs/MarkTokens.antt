@@ -1,5 +1,5 @@
 -- The open marks of a tree are tokens, and behind those of memories stands another mark.
-use Rattle.std.proofs.Common.{◌≡◌, ℕ, zero, suc, ◌+◌, ◌-◌, ◌<◌, ◌≤◌, ◌&&◌, ◌||◌, ◌==◌, ⊎_elim, Bool, not, true, false, cond, List, [], ◌∷◌, ◌++◌, flat_map, take, drop, length, get_or, refl, ap, sym, ◌∙◌, subst, arith, length-drop}
+use Rattle.std.proofs.Common.{◌≡◌, ℕ, zero, suc, ◌-◌, ◌<◌, ◌≤◌, ◌&&◌, ◌||◌, ◌==◌, ⊎_elim, Bool, not, true, false, cond, List, [], ◌∷◌, ◌++◌, take, drop, get_or, refl, ap, sym, ◌∙◌, subst, arith}
 use Rattle.std.specs.Prelude.{Contains, codes}
 use Rattle.std.specs.List.{AllByRecursion, list_all, list_any, slice_range}
 use Rattle.std.proofs.lemmas.Bool.{and_parts, cases_lt, eqb-true, false≢true, not-true}
@@ -8,15 +8,14 @@ use Rattle.rely_num.specs.OpenMarks.{AreOpenMarks}
 use Rattle.rely_num.specs.Texts.{Bytes, is_name_byte}
 use Rattle.rely_num.specs.declared.span.Span.{Span}
 use Rattle.rely_num.specs.declared.word.Word.TheVariants as word
-use Rattle.rely_num.specs.declared.word.Word.{Word}
 use Rattle.rely_lexer.specs.Forms.{is_mark}
 use Rattle.rely_lexer.specs.Readings.{AreTokensFrom, HasForm, is_gap}
 use Rattle.rely_lexer.specs.Tokens.{begins_comment, is_blank}
 use Rattle.rely_lexer.specs.declared.token.Token.{Token}
 use Rattle.rely_lexer.specs.declared.token.TokenKind.TheVariants as kind
 use Rattle.rely_lexer.proofs.LongestLaws.{first-same}
-use Rattle.rely_tree.specs.Marks.{decls_marks, function_marks, kind_marks, IsMarked}
-use Rattle.rely_tree.specs.Tree.{DeclTree, FuncTree, KindTree, UnitTree}
+use Rattle.rely_tree.specs.Marks.{decls_marks, function_marks, kind_marks}
+use Rattle.rely_tree.specs.Tree.{DeclTree, FuncTree, KindTree}
 use Rattle.rely_parser.specs.Productions as grammar
 use Rattle.rely_parser.specs.Productions.{done, one, seq, either, other, Array, Each, Func, Listed, Local, Memory, OneOrMore, Spelled, Spells, Tail, Var, Written}
 use Rattle.rely_parser.proofs.MarkedExprs.{Marked, none, pass, mark, plain, listed-marks}
