@@ -8,11 +8,10 @@ ghost use Rattle.chisel_cert.specs.Node.{closing_of, tree_of};
 ghost use Rattle.chisel_check.specs.Prices.{IsPriced};
 ghost use Rattle.chisel_check.specs.Walk.{mark_holds, node_walk, ClosingFits, TreeFits};
 
-use crate::prices::{Priced, kept_closes};
+use crate::prices::{Priced, kept_closes, own_closes};
 use chisel_cert::{Mark, Node};
 use chisel_table::{
     CloseRule, Partial, Table, UNFIXED, decision_count, option_count, row_closes, row_count,
-    vector_closes,
 };
 
 /// What is wrong with a certificate.
@@ -66,7 +65,7 @@ fn mark_holds(t: &Table, c: &Priced<'_>, p: &Partial, mark: Mark<'_>) -> bool
                     && kept_closes(t, &c.prices[close.index as usize], p, c.cert.choice, rule)
             }
         },
-        Mark::Own(rule, l) => vector_closes(t, l, p, c.cert.choice, rule),
+        Mark::Own(rule, l) => own_closes(t, l, p, c.cert.choice, rule),
     }
 }
 

@@ -238,3 +238,22 @@ pub(crate) fn kept_closes(
         _ => false,
     }
 }
+
+/// Whether a rule closes a part with a vector of its own, beside the choice. What is kept of the vector fills 74 KB of the
+/// stack, which no frame of the recursion over the nodes may hold.
+#[inline(never)]
+pub(crate) fn own_closes(
+    t: &Table,
+    l: &[u64],
+    p: &Partial,
+    choice: Option<&[u8]>,
+    rule: CloseRule,
+) -> bool
+    requires table { IsTable t.now }
+    requires vector { IsVector t.now l.now }
+    requires partial { IsPartial t.now p.now }
+    requires choice { IsBest t.now (option_copied choice) }
+    ensures { result ≡ vector_closes t.now (option_copied choice.entry) p.now rule l.now }
+{
+    kept_closes(t, &kept(t, l), p, choice, rule)
+}
