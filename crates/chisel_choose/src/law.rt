@@ -20,7 +20,8 @@ pub fn one_answer()
 {}
 
 /// A law and no work: what a command promises that ends well. The choice that `optimise` prints is the best, and what it
-/// prints passes `check`; the choice of the certificate that the others are given is the best.
+/// prints passes `check`; the choice of the certificate that the others are given is the best, and it is the one that
+/// `rewrite` names. Where `optimise` prints that there is no choice, none keeps the budgets, and that passes too.
 pub fn good_answers_hold()
     ensures { KeepsPromise }
 {}
