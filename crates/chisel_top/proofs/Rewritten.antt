@@ -26,8 +26,8 @@ verifies_best i given text input meaning certified =
         meaning = meaning;
         calls = known.callees.0;
         accepted = known.callees.1;
-        reported = λ wanted.
-            reported_as_chosen r.text meaning.unit r.hardware meaning.name r.linked best.choice known.callees.0 wanted sound.ready.hardware meaning.read meaning.means sound.inner
+        reported = λ name wanted means.
+            reported_as_chosen r.text meaning.unit r.hardware name r.linked best.choice known.callees.0 wanted sound.ready.hardware meaning.read means sound.inner
             known.alone best.best.least.allowed known.unlimited known.callees.1 (subst (λ t. length t ≤ 65536) best.named short);
       };
     }

@@ -21,13 +21,13 @@ pub record IsMeaning (r : Ready) : Type 0 where
   pub read : unit_in r.text ≡ Ok unit
   pub means : linked_of unit name r.hardware ≡ Ok r.linked
 
--- With that choice named, whether the lines of the functions that are called are wanted or not, `verify` judges each claim as
--- under the choice, and no claim needs a variable or lies below its bound.
+-- With that choice named, by whatever name the tree has the function, and whether the lines of the functions that are called are
+-- wanted or not: `verify` judges each claim as under the choice, and no claim needs a variable or lies below its bound.
 pub record VerifiesAs (r : Ready) (choice : List ℕ) : Type 0 where
   pub meaning : IsMeaning r
   pub calls : List JudgedClaim
   pub accepted : callees_of r.hardware r.linked.inner ≡ Ok (AllAccepted calls)
-  pub reported : (wanted : Bool) → IsReported r.text meaning.unit r.hardware meaning.name r.linked choice calls wanted
+  pub reported : (name : Bytes) (wanted : Bool) → linked_of meaning.unit name r.hardware ≡ Ok r.linked → IsReported r.text meaning.unit r.hardware name r.linked choice calls wanted
 
 -- the written source names the best choice, and `verify` says so of it where it is no longer than a source may be
 pub record VerifiesBest (i : Input) (given text : Bytes) : Type 0 where
