@@ -18,9 +18,11 @@ use Rattle.rely_kernel.proofs.Callees.{call_right, place_arity, fine}
 use Rattle.rely_kernel.proofs.Shape.{fresh_shape, shape_put, scalar_below}
 use Rattle.rely_machine.specs.declared.function.Function.{Function}
 use Rattle.rely_machine.specs.Going.{Counts, HasRows, IsRunning, Runs, Exceeds, Stands, Takes, standing, one_more, with_use, with_entry}
+use Rattle.rely_machine.specs.Idle.{body_table}
 use Rattle.rely_machine.proofs.Reading.{found_map}
 use Rattle.rely_machine.proofs.Sizes.{before, block_size, body_before}
 use Rattle.rely_machine.proofs.Steps.{chance, entering, free, too_many, found_below}
+use Rattle.rely_machine.proofs.Tables.{table_known}
 use Rattle.rely_machine.proofs.Walking.{exceeds_first, exceeds_then, rows_use, set_length}
 
 some_is : {X : Type 0} {x y : X} → Some x ≡ Some y → x ≡ y
@@ -56,7 +58,7 @@ elsewhere (y ∷ ys) (suc i) (suc j) x ne = elsewhere ys i j x (λ e. ne (ap suc
 
 module _ (r : Function) (s : Store) (t : Counts) (v place : ℕ) (es : List Expr) (known : slice_get (functions r.linked.now) r.at ≡ Some r.kernel.now) (linked : IsLinked r.linked.now)
     (fits : Fine (functions r.linked.now) r.at r.kernel.now (Stmt.Call v place es))
-    (q : Function) (same : q.linked.now ≡ r.linked.now) (called : callee (functions r.linked.now) r.at place ≡ Some q.at) (earlier : q.at < r.at) (found : slice_get (functions r.linked.now) q.at ≡ Some q.kernel.now) where
+    (q : Function) (same : q.linked.now ≡ r.linked.now) (same_tables : q.tables.now ≡ r.tables.now) (called : callee (functions r.linked.now) r.at place ≡ Some q.at) (earlier : q.at < r.at) (found : slice_get (functions r.linked.now) q.at ≡ Some q.kernel.now) where
   -- the callee is that of the place
   abbrev placed : Arity (functions r.linked.now) r.at place (length es)
   placed = place_arity (functions r.linked.now) r.at r.kernel.now known place (length es) fits.1
@@ -81,6 +83,12 @@ module _ (r : Function) (s : Store) (t : Counts) (v place : ℕ) (es : List Expr
 
   pub callee_linked : IsLinked q.linked.now
   callee_linked = subst IsLinked (sym same) linked
+
+  pub callee_tables : r.tables.now ≡ map body_table (functions r.linked.now) → q.tables.now ≡ map body_table (functions q.linked.now)
+  callee_tables are = same_tables ∙ (are ∙ ap (λ (l : Linked). map body_table (functions l)) (sym same))
+
+  pub callee_table : r.tables.now ≡ map body_table (functions r.linked.now) → slice_get q.tables.now q.at ≡ Some (body_table q.kernel.now)
+  callee_table are = table_known q (callee_tables are) callee_known
 
   pub callee_fine : AllFine (functions q.linked.now) q.at q.kernel.now (block_of q.kernel.now.body)
   callee_fine = fine (functions q.linked.now) callee_linked q.at q.kernel.now callee_known
@@ -129,6 +137,7 @@ module _ (r : Function) (s : Store) (t : Counts) (v place : ℕ) (es : List Expr
       callee_running = record {
         linked = callee_linked;
         known = callee_known;
+        tables = callee_tables args.running.tables;
         shape = callee_shape;
         rows = subst (λ (l : Linked). HasRows l t2) (sym same) t2_rows;
         entries = t2_entries;
@@ -209,6 +218,7 @@ module _ (r : Function) (s : Store) (t : Counts) (v place : ℕ) (es : List Expr
           running = record {
             linked = linked;
             known = known;
+            tables = args.running.tables;
             shape = shape_put r.kernel.now s v inner1.result args.running.shape fits.0 body.running.shape.result;
             rows = rows_use r.linked.now t3 r.at (number r.kernel.now (label.Write v)) t3_rows;
             entries = entries_at;

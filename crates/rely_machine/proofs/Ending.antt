@@ -21,7 +21,9 @@ use Rattle.rely_machine.specs.declared.function.Function.{Function}
 use Rattle.rely_machine.specs.declared.outcome.Outcome.{Outcome}
 use Rattle.rely_machine.specs.Going.{Counts, Exceeds, IsRunning, Runs, Stands, Takes, standing}
 use Rattle.rely_machine.specs.Run.{IsOutcome, IsRun, ReachesLimit, entered, first, taken, uses, uses_at}
+use Rattle.rely_machine.specs.Idle.{body_table}
 use Rattle.rely_machine.proofs.Reading.{found_last}
+use Rattle.rely_machine.proofs.Tables.{table_known}
 
 -- lists with one item more
 snoc_same : {X : Type 0} (xs ys : List X) (x y : X) → xs ++ x ∷ [] ≡ ys ++ y ∷ [] → (xs ≡ ys) × (x ≡ y)
@@ -172,10 +174,17 @@ module _ (l : Linked) (start : Store) (linked : IsLinked l) (begins : IsStart l.
   pub main_fine : AllFine (functions r.linked.now) r.at r.kernel.now (block_of r.kernel.now.body)
   main_fine = fine (functions r.linked.now) (subst IsLinked (sym same) linked) r.at r.kernel.now known
 
-  pub main_running : (t : Counts) → t ≡ no_counts l limit → IsRunning r start t
-  main_running t e = rw e (record {
+  main_tables : r.tables.now ≡ map body_table (functions l) → r.tables.now ≡ map body_table (functions r.linked.now)
+  main_tables are = are ∙ ap (λ (k : Linked). map body_table (functions k)) (sym same)
+
+  pub main_table : r.tables.now ≡ map body_table (functions l) → slice_get r.tables.now r.at ≡ Some (body_table r.kernel.now)
+  main_table are = table_known r (main_tables are) known
+
+  pub main_running : r.tables.now ≡ map body_table (functions l) → (t : Counts) → t ≡ no_counts l limit → IsRunning r start t
+  main_running are t e = rw e (record {
     linked = subst IsLinked (sym same) linked;
     known = known;
+    tables = main_tables are;
     shape = rw kernel begins.shape;
     rows = rw same (record { rows = rows_long (functions l); entries = length-replicate (length l.inner) 0 });
     entries = λ g b. let z = zero_at (length l.inner) g in omega (arith, z);

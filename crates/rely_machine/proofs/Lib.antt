@@ -11,10 +11,12 @@ pub mod EnergyItems
 pub mod EnergyOwn
 pub mod EnergyRuns
 pub mod Holding
+pub mod Idling
 pub mod Listing
 pub mod Looping
 pub mod Reading
 pub mod Sizes
 pub mod Steps
+pub mod Tables
 pub mod Values
 pub mod Walking

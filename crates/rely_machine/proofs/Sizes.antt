@@ -28,6 +28,10 @@ body_size k = 1 + block_size (block_of k.body)
 abbrev pub before : List Kernel → ℕ → ℕ
 before fs f = sum_by body_size (take f fs)
 
+pub some_size : (b : Block) → 0 < block_size b
+some_size done = omega arith
+some_size (s then rest) = omega arith
+
 -- a statement is smaller than its block
 pub stmt_smaller : (ss : List St) (i : ℕ) (s : St) → slice_get ss i ≡ Some s → stmt_size (stmt_of s.what) < block_size (block_of ss)
 stmt_smaller [] i s e = absurd (cc)

@@ -77,7 +77,7 @@ module _ (r : Function) where
 
   -- the store may change where its shape stays
   pub exact_running : (s s' : Store) (t : Counts) → IsRunning r s t → HasShape r.kernel.now s' → IsRunning r s' t
-  exact_running s s' t h shape = record { linked = h.linked; known = h.known; shape = shape; rows = h.rows; entries = h.entries }
+  exact_running s s' t h shape = record { linked = h.linked; known = h.known; tables = h.tables; shape = shape; rows = h.rows; entries = h.entries }
 
   pub result_runs : (z : ℤ) (s : Store) (t : Counts) → HasShape r.kernel.now (record s { result = z }) → IsRunning r s t → Runs r (λ is. Result ∷ is) (λ st. z ∷ st) (λ st. st) s t (record s { result = z }) t
   result_runs z s t shape h = record {
@@ -93,6 +93,7 @@ module _ (r : Function) where
   use_running s s' t i h shape = record {
     linked = h.linked;
     known = h.known;
+    tables = h.tables;
     shape = shape;
     rows = rows_use r.linked.now t r.at i h.rows;
     entries = λ g b. let e = h.entries g b in omega (arith, e);

@@ -8,6 +8,7 @@ use Rattle.rely_kernel.specs.Labels.{labels_of}
 use Rattle.rely_kernel.specs.Valid.{IsLinked, PlaceFits}
 use Rattle.rely_kernel.specs.Machine.{Config, Frame, Item, functions, after, passed, trace, steps}
 use Rattle.rely_machine.specs.declared.function.Function.{Function}
+use Rattle.rely_machine.specs.Idle.{body_table}
 use Rattle.rely_machine.specs.Run.{uses_at, entered}
 
 -- ---- counts
@@ -57,11 +58,12 @@ pub record Takes (l : Linked) (c : Config) (limit : ℕ) : Type 0 where
 
 -- ---- a function that runs
 
--- it is one of them, and holds a store of its shape, and each function that it may call was entered no more often than
--- steps were taken
+-- it is one of them and knows the tables of all, it holds a store of its shape, and each function that it may call was
+-- entered no more often than steps were taken
 pub record IsRunning (r : Function) (s : Store) (t : Counts) : Type 0 where
   pub linked : IsLinked r.linked.now
   pub known : slice_get (functions r.linked.now) r.at ≡ Some r.kernel.now
+  pub tables : r.tables.now ≡ map body_table (functions r.linked.now)
   pub shape : HasShape r.kernel.now s
   pub rows : HasRows r.linked.now t
   pub entries : (g : ℕ) → g < r.at → get_or t.entries g 0 ≤ t.steps

@@ -1,5 +1,6 @@
 pub mod Cost
 pub mod EnergySums
 pub mod Going
+pub mod Idle
 pub mod Laws
 pub mod Run

@@ -1,29 +1,53 @@
-ghost use Rattle.std.specs.Prelude.{◌≡◌, ◌<◌, length, option_map, slice_get, Some};
+ghost use Rattle.std.specs.Prelude.{◌≡◌, ◌<◌, length, map, option_map, slice_get, IfOk, Some};
 ghost use Rattle.rely_kernel.specs.Labels.{number};
 ghost use Rattle.rely_kernel.specs.Machine.{callee, functions, main, numbers_in};
 ghost use Rattle.rely_kernel.specs.Valid.{IsValid};
 ghost use Rattle.rely_machine.specs.Going.{IsPlace};
+ghost use Rattle.rely_machine.specs.Idle.{body_table};
 ghost use Rattle.rely_kernel.specs.declared.label.Label.TheVariants as label;
 
-use rely_kernel::{Kernel, Linked, St, Var};
-use rely_num::Op;
+use crate::live::{Live, Text, live_statements};
+use rely_kernel::{Kernel, Linked, Var};
+use rely_num::{List, Op};
+use std::alloc::{AllocError, Global};
+
+fn table(alloc: Global, k: &Kernel) -> Result<List<Live>, AllocError>
+    ensures { IfOk result (λ table. table ≡ body_table k.now) }
+{
+    Ok(List::from_vec(live_statements(alloc, k.body.as_slice())?))
+}
+
+/// The tables of the bodies of a linked list, in its order.
+pub fn tables(alloc: Global, linked: &Linked) -> Result<Vec<List<Live>>, AllocError>
+    ensures { IfOk result (λ tables. tables.items ≡ map body_table (functions linked.now)) }
+{
+    let mut tables = Vec::new(alloc);
+    for k in linked.inner.as_slice() {
+        tables.push(table(alloc, k)?)?;
+    }
+    tables.push(table(alloc, &linked.kernel)?)?;
+    Ok(tables)
+}
 
 /// A function of a linked list, by its place there: the last is the kernel, and those before it are reached.
 #[derive(Clone, Copy, Debug)]
 pub struct Function<'l> {
     linked: &'l Linked,
+    tables: &'l [List<Live>],
     at: usize,
     kernel: &'l Kernel,
 }
 
 impl<'l> Function<'l> {
-    pub fn main(linked: &'l Linked) -> Function<'l>
+    pub fn main(linked: &'l Linked, tables: &'l [List<Live>]) -> Function<'l>
         ensures linked { result.linked.now ≡ linked.now }
+        ensures tables { result.tables.now ≡ tables.now }
         ensures at { result.at ≡ main linked.now }
         ensures kernel { result.kernel.now ≡ linked.now.kernel }
     {
         Function {
             linked,
+            tables,
             at: linked.inner.len(),
             kernel: &linked.kernel,
         }
@@ -35,10 +59,15 @@ impl<'l> Function<'l> {
         self.at
     }
 
-    pub fn body(&self) -> &[St]
-        ensures { result.now ≡ self.now.kernel.now.body }
+    pub fn body(&self) -> Text<'l>
+        requires { slice_get self.now.tables.now self.now.at ≡ Some (body_table self.now.kernel.now) }
+        ensures statements { result.statements.now ≡ self.now.kernel.now.body }
+        ensures live { result.live.now ≡ body_table self.now.kernel.now }
     {
-        self.kernel.body.as_slice()
+        Text {
+            statements: self.kernel.body.as_slice(),
+            live: self.tables[self.at].as_slice(),
+        }
     }
 
     pub fn operator(&self, site: u32) -> Op
@@ -85,6 +114,7 @@ impl<'l> Function<'l> {
         requires known { slice_get (functions self.now.linked.now) self.now.at ≡ Some self.now.kernel.now }
         requires place { IsPlace self.now place }
         ensures linked { result.linked.now ≡ self.now.linked.now }
+        ensures tables { result.tables.now ≡ self.now.tables.now }
         ensures at { callee (functions self.now.linked.now) self.now.at place ≡ Some result.at }
         ensures earlier { result.at < self.now.at }
         ensures kernel { slice_get (functions self.now.linked.now) result.at ≡ Some result.kernel.now }
@@ -92,6 +122,7 @@ impl<'l> Function<'l> {
         let at = self.kernel.calls.as_slice()[place as usize].callee as usize;
         Function {
             linked: self.linked,
+            tables: self.tables,
             at,
             kernel: &self.linked.inner.as_slice()[at],
         }

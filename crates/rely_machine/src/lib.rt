@@ -8,6 +8,7 @@ mod function;
 mod held;
 mod laws;
 mod lists;
+mod live;
 mod outcome;
 mod reliable;
 mod tally;
@@ -20,6 +21,7 @@ pub use held::Held;
 pub use laws::{
     cost_by_uses, cost_is_bounded, has_outcome, one_cost, one_outcome, reaches_by_outcome,
 };
+pub use live::{Live, Part, Text, live_statements};
 pub use outcome::Outcome;
 pub use reliable::run;
 pub use value::operate;

@@ -4,7 +4,7 @@ ghost use Rattle.rely_kernel.specs.Valid.{IsLinked};
 ghost use Rattle.rely_machine.specs.Run.{IsOutcome, ReachesLimit};
 ghost use Rattle.rely_machine.specs.declared.fault.RunFault.TheVariants as fault;
 
-use crate::function::Function;
+use crate::function::{Function, tables};
 use crate::held::Held;
 use crate::tally::Tally;
 use crate::walk::block;
@@ -25,7 +25,8 @@ pub fn run(alloc: Global, k: &Linked, start: &Store, limit: u64) -> Result<Outco
 {
     let mut tally = Tally::new(alloc, k, limit)?;
     let mut held = Held::of(alloc, start)?;
-    let main = Function::main(k);
+    let tables = tables(alloc, k)?;
+    let main = Function::main(k, tables.as_slice());
     block(&main, main.body(), &mut held, &mut tally)?;
     let store = held.into_store(alloc)?;
     tally.into_outcome(alloc, store)

@@ -4,14 +4,16 @@ ghost use Rattle.rely_kernel.specs.Text.{Stmt, block_of, expr_of, exprs_of, stmt
 ghost use Rattle.rely_kernel.specs.Valid.{AllFit, ExprFits};
 ghost use Rattle.rely_kernel.specs.Running.{All-fit, AllFine, Fine, pushed};
 ghost use Rattle.rely_machine.specs.Going.{Exceeds, IsRunning, Runs};
+ghost use Rattle.rely_machine.specs.Idle.{HasTable, HasTables};
 ghost use Rattle.rely_machine.specs.declared.fault.RunFault.TheVariants as fault;
 
 use crate::RunFault;
 use crate::function::Function;
 use crate::held::Held;
+use crate::live::{Part, Text};
 use crate::tally::Tally;
 use crate::value::operate;
-use rely_kernel::{Ex, St, StKind};
+use rely_kernel::{Ex, StKind};
 
 /// The value of an expression: operands from left to right, an index before its array.
 pub fn value_of(r: &Function, e: &Ex, held: &Held, tally: &mut Tally) -> Result<i64, RunFault>
@@ -97,38 +99,67 @@ fn give(r: &Function, e: &Ex, held: &mut Held, tally: &mut Tally) -> Result<(), 
     Ok(())
 }
 
-/// What a text does to the store.
+/// What a text does to the store. Idle statements are passed over.
 #[cycle(text)]
-pub fn block(r: &Function, text: &[St], held: &mut Held, tally: &mut Tally) -> Result<(), RunFault>
+pub fn block(r: &Function, text: Text, held: &mut Held, tally: &mut Tally) -> Result<(), RunFault>
     requires running { IsRunning r.now held.old tally.old }
-    requires fits { AllFine (functions r.now.linked.now) r.now.at r.now.kernel.now (block_of text.now) }
-    ensures runs { OnOk result (Runs r.now (items (block_of text.now)) (λ st. st) (λ st. st) held.old tally.old held.new tally.new) }
-    ensures exceeds { result ≡ Err fault.Steps → Exceeds r.now (items (block_of text.now)) (λ st. st) held.old tally.old }
+    requires fits { AllFine (functions r.now.linked.now) r.now.at r.now.kernel.now (block_of text.statements.now) }
+    requires table { HasTable text }
+    ensures runs { OnOk result (Runs r.now (items (block_of text.entry.statements.now)) (λ st. st) (λ st. st) held.old tally.old held.new tally.new) }
+    ensures exceeds { result ≡ Err fault.Steps → Exceeds r.now (items (block_of text.entry.statements.now)) (λ st. st) held.old tally.old }
 {
-    for s in text {
-        statement(r, &s.what, held, tally)?;
+    let mut live = text.live;
+    while let Some((entry, inner)) = live.split_first() {
+        let (first, rest) = inner.split_at(entry.first);
+        let (second, behind) = rest.split_at(entry.second);
+        let what = &text.statements[entry.place].what;
+        let part = Part {
+            what,
+            first,
+            second,
+        };
+        statement(r, part, held, tally)?;
+        live = behind;
     }
     Ok(())
 }
 
 #[cycle(text)]
-fn statement(
-    r: &Function,
-    what: &StKind,
-    held: &mut Held,
-    tally: &mut Tally,
-) -> Result<(), RunFault>
+fn statement(r: &Function, part: Part, held: &mut Held, tally: &mut Tally) -> Result<(), RunFault>
     requires running { IsRunning r.now held.old tally.old }
-    requires fits { Fine (functions r.now.linked.now) r.now.at r.now.kernel.now (stmt_of what.now) }
-    ensures runs { OnOk result (Runs r.now (stmt_items (stmt_of what.now)) (λ st. st) (λ st. st) held.old tally.old held.new tally.new) }
-    ensures exceeds { result ≡ Err fault.Steps → Exceeds r.now (stmt_items (stmt_of what.now)) (λ st. st) held.old tally.old }
+    requires fits { Fine (functions r.now.linked.now) r.now.at r.now.kernel.now (stmt_of part.what.now) }
+    requires tables { HasTables part }
+    ensures runs { OnOk result (Runs r.now (stmt_items (stmt_of part.entry.what.now)) (λ st. st) (λ st. st) held.old tally.old held.new tally.new) }
+    ensures exceeds { result ≡ Err fault.Steps → Exceeds r.now (stmt_items (stmt_of part.entry.what.now)) (λ st. st) held.old tally.old }
 {
-    match what {
+    match part.what {
         StKind::Set(v, e) => set(r, *v, e, held, tally),
         StKind::SetElem(a, i, e) => set_element(r, *a, i, e, held, tally),
-        StKind::If(e, s, t) => choose(r, e, s.as_slice(), t.as_slice(), held, tally),
-        StKind::While(e, n, s) => rounds(r, e, *n, s.as_slice(), held, tally),
-        StKind::Repeat(n, s) => turns(r, *n, s.as_slice(), held, tally),
+        StKind::If(e, s, t) => {
+            let s = Text {
+                statements: s.as_slice(),
+                live: part.first,
+            };
+            let t = Text {
+                statements: t.as_slice(),
+                live: part.second,
+            };
+            choose(r, e, s, t, held, tally)
+        }
+        StKind::While(e, n, s) => {
+            let text = Text {
+                statements: s.as_slice(),
+                live: part.first,
+            };
+            rounds(r, e, *n, text, held, tally)
+        }
+        StKind::Repeat(n, s) => {
+            let text = Text {
+                statements: s.as_slice(),
+                live: part.first,
+            };
+            turns(r, *n, text, held, tally)
+        }
         StKind::Result(e) => give(r, e, held, tally),
         StKind::Call(v, place, es) => call(r, *v, *place, es.as_slice(), held, tally),
     }
@@ -138,15 +169,17 @@ fn statement(
 fn choose(
     r: &Function,
     e: &Ex,
-    s: &[St],
-    t: &[St],
+    s: Text,
+    t: Text,
     held: &mut Held,
     tally: &mut Tally,
 ) -> Result<(), RunFault>
     requires running { IsRunning r.now held.old tally.old }
-    requires fits { Fine (functions r.now.linked.now) r.now.at r.now.kernel.now (Stmt.If (expr_of e.now) (block_of s.now) (block_of t.now)) }
-    ensures runs { OnOk result (Runs r.now (stmt_items (Stmt.If (expr_of e.now) (block_of s.now) (block_of t.now))) (λ st. st) (λ st. st) held.old tally.old held.new tally.new) }
-    ensures exceeds { result ≡ Err fault.Steps → Exceeds r.now (stmt_items (Stmt.If (expr_of e.now) (block_of s.now) (block_of t.now))) (λ st. st) held.old tally.old }
+    requires fits { Fine (functions r.now.linked.now) r.now.at r.now.kernel.now (Stmt.If (expr_of e.now) (block_of s.statements.now) (block_of t.statements.now)) }
+    requires first { HasTable s }
+    requires second { HasTable t }
+    ensures runs { OnOk result (Runs r.now (stmt_items (Stmt.If (expr_of e.now) (block_of s.entry.statements.now) (block_of t.entry.statements.now))) (λ st. st) (λ st. st) held.old tally.old held.new tally.new) }
+    ensures exceeds { result ≡ Err fault.Steps → Exceeds r.now (stmt_items (Stmt.If (expr_of e.now) (block_of s.entry.statements.now) (block_of t.entry.statements.now))) (λ st. st) held.old tally.old }
 {
     let z = value_of(r, e, held, tally)?;
     if z != 0 {
@@ -160,14 +193,15 @@ fn choose(
 fn turns(
     r: &Function,
     n: u32,
-    text: &[St],
+    text: Text,
     held: &mut Held,
     tally: &mut Tally,
 ) -> Result<(), RunFault>
     requires running { IsRunning r.now held.old tally.old }
-    requires fits { Fine (functions r.now.linked.now) r.now.at r.now.kernel.now (Stmt.Repeat n (block_of text.now)) }
-    ensures runs { OnOk result (Runs r.now (stmt_items (Stmt.Repeat n (block_of text.now))) (λ st. st) (λ st. st) held.old tally.old held.new tally.new) }
-    ensures exceeds { result ≡ Err fault.Steps → Exceeds r.now (stmt_items (Stmt.Repeat n (block_of text.now))) (λ st. st) held.old tally.old }
+    requires fits { Fine (functions r.now.linked.now) r.now.at r.now.kernel.now (Stmt.Repeat n (block_of text.statements.now)) }
+    requires table { HasTable text }
+    ensures runs { OnOk result (Runs r.now (stmt_items (Stmt.Repeat n (block_of text.entry.statements.now))) (λ st. st) (λ st. st) held.old tally.old held.new tally.new) }
+    ensures exceeds { result ≡ Err fault.Steps → Exceeds r.now (stmt_items (Stmt.Repeat n (block_of text.entry.statements.now))) (λ st. st) held.old tally.old }
 {
     for _ in 0..n {
         tally.walk(1)?;
@@ -182,14 +216,15 @@ fn rounds(
     r: &Function,
     e: &Ex,
     n: u32,
-    text: &[St],
+    text: Text,
     held: &mut Held,
     tally: &mut Tally,
 ) -> Result<(), RunFault>
     requires running { IsRunning r.now held.old tally.old }
-    requires fits { Fine (functions r.now.linked.now) r.now.at r.now.kernel.now (Stmt.While (expr_of e.now) n (block_of text.now)) }
-    ensures runs { OnOk result (Runs r.now (stmt_items (Stmt.While (expr_of e.now) n (block_of text.now))) (λ st. st) (λ st. st) held.old tally.old held.new tally.new) }
-    ensures exceeds { result ≡ Err fault.Steps → Exceeds r.now (stmt_items (Stmt.While (expr_of e.now) n (block_of text.now))) (λ st. st) held.old tally.old }
+    requires fits { Fine (functions r.now.linked.now) r.now.at r.now.kernel.now (Stmt.While (expr_of e.now) n (block_of text.statements.now)) }
+    requires table { HasTable text }
+    ensures runs { OnOk result (Runs r.now (stmt_items (Stmt.While (expr_of e.now) n (block_of text.entry.statements.now))) (λ st. st) (λ st. st) held.old tally.old held.new tally.new) }
+    ensures exceeds { result ≡ Err fault.Steps → Exceeds r.now (stmt_items (Stmt.While (expr_of e.now) n (block_of text.entry.statements.now))) (λ st. st) held.old tally.old }
 {
     for _ in 0..n {
         let z = value_of(r, e, held, tally)?;

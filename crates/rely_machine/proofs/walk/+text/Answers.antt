@@ -1,134 +1,181 @@
-use Rattle.std.proofs.Common.{rules, ◌+◌, ◌-◌, ◌∷◌, length, OnOk, refl, sym, ap, subst, ◌∙◌, arith}
-use Rattle.std.proofs.lemmas.List.{take_all}
-use Rattle.std.proofs.lemmas.Option.{slice_get_read}
+use Rattle.std.proofs.Common.{rules, ◌+◌, ◌-◌, ◌≤◌, ◌∷◌, length, take, drop, OnOk, sym, ap, subst, ◌∙◌, arith}
 use Rattle.std.proofs.lemmas.Result.{on_ok_weaker}
+use Rattle.rely_kernel.specs.declared.kernel.St.{St}
 use Rattle.rely_kernel.specs.Machine.{Call, Repeat, While, Write, fresh, functions, items, stmt_items}
 use Rattle.rely_kernel.specs.Text.{Stmt, block_of, expr_of, exprs_of, stmt_of}
 use Rattle.rely_kernel.specs.Running.{Fine}
 use Rattle.rely_kernel.proofs.TextLemmas.{text-If, text-While, text-Repeat}
 use Rattle.rely_machine.specs.Going.{Exceeds, Runs, with_entry}
-use Rattle.rely_machine.proofs.Calling.{arity, callee_fine, callee_running, callee_valid, call_goes, call_known, call_label, call_smaller, call_stops_body, call_stops_enter, call_stops_write}
-use Rattle.rely_machine.proofs.Listing.{fine_at, stmt_goes, stmt_stops}
+use Rattle.rely_machine.specs.Idle.{first_of, second_of, table_of}
+use Rattle.rely_machine.proofs.Calling.{arity, callee_fine, callee_running, callee_table, callee_valid, call_goes, call_known, call_label, call_smaller, call_stops_body, call_stops_enter, call_stops_write}
+use Rattle.rely_machine.proofs.Idling.{Walks, walk_end, walk_goes, walk_next, walk_start, walk_stops}
+use Rattle.rely_machine.proofs.Listing.{fine_at}
 use Rattle.rely_machine.proofs.Looping.{if_goes, if_stops, if_stops_first, leads_start, picks_no, picks_yes, round_ends, round_goes, round_stops, round_stops_first, round_stops_then, rounds_end, steps_running, turn_goes, turn_stops, turn_stops_then, turns_end}
 use Rattle.rely_machine.proofs.Reading.{scalar_long, steps_from, zero_in, zero_of}
 use Rattle.rely_machine.proofs.Sizes.{block_size, stmt_size, stmt_smaller}
-use Rattle.rely_machine.proofs.Walking.{exceeds_first, nothing}
+use Rattle.rely_machine.proofs.Tables.{has_table, place_below, place_read}
+use Rattle.rely_machine.proofs.Walking.{exceeds_first}
 use Rattle.rely_machine.proofs.walk.+text.Goals as goal
 
-pub block-loop-s-init : goal.block-loop-s-init
-block-loop-s-init t c = nothing c.args.r.now (λ st. st) c.args.held.now c.args.tally.now c.requires.running
+pub block-loop-entry-init : goal.block-loop-entry-init
+block-loop-entry-init t c = walk_start c.args.r.now c.args.text.statements.now c.args.held.now c.args.tally.now c.args.text.live.now c.requires.table.live c.requires.running
+
+pub block-split_at-requires : goal.block-split_at-requires
+block-split_at-requires t c = (walk_next c.args.r.now c.args.text.statements.now c.args.held.now c.args.tally.now c.loop-entry.held c.loop-entry.tally c.loop-entry.live.now c.in-Some.entry.now c.in-Some.inner.now c.in-Some.ensures.cases.0 c.loop-entry.invariant).first_many
+
+pub block-split_at-requires-in-Some : goal.block-split_at-requires-in-Some
+block-split_at-requires-in-Some t c = subst (λ xs. c.in-Some.entry.now.second ≤ length xs) (sym c.split_at.ensures.back) (walk_next c.args.r.now c.args.text.statements.now c.args.held.now c.args.tally.now c.loop-entry.held c.loop-entry.tally c.loop-entry.live.now c.in-Some.entry.now c.in-Some.inner.now c.in-Some.ensures.cases.0 c.loop-entry.invariant).second_many
+
+pub block-offset_bounds-text-entry : goal.block-offset_bounds-text-entry
+block-offset_bounds-text-entry t c =
+    let n = walk_next c.args.r.now c.args.text.statements.now c.args.held.now c.args.tally.now c.loop-entry.held c.loop-entry.tally c.loop-entry.live.now c.in-Some.entry.now c.in-Some.inner.now c.in-Some.ensures.cases.0 c.loop-entry.invariant in
+    let below = place_below c.args.text.statements.now c.in-Some.entry.now.place n.s n.at in
+    search (rules, below)
+
+pub block-bounds-text-entry : goal.block-bounds-text-entry
+block-bounds-text-entry t c =
+    let n = walk_next c.args.r.now c.args.text.statements.now c.args.held.now c.args.tally.now c.loop-entry.held c.loop-entry.tally c.loop-entry.live.now c.in-Some.entry.now c.in-Some.inner.now c.in-Some.ensures.cases.0 c.loop-entry.invariant in
+    place_below c.args.text.statements.now c.in-Some.entry.now.place n.s n.at
 
 pub block-statement-requires : goal.block-statement-requires
 block-statement-requires t c =
-    let smaller = stmt_smaller c.args.text.now c.loop-s.s-index c.s-item.result (slice_get_read c.args.text.now (length c.args.text.now) c.loop-s.s-index c.s-item.result refl c.loop-s-test.true c.s-item.is) in
-    let d = c.decreases in
-    (omega (arith, d, smaller), (c.loop-s.invariant.running, fine_at (functions c.args.r.now.linked.now) c.args.r.now.at c.args.r.now.kernel.now c.args.text.now c.loop-s.s-index c.s-item.result (slice_get_read c.args.text.now (length c.args.text.now) c.loop-s.s-index c.s-item.result refl c.loop-s-test.true c.s-item.is) c.requires.fits))
+    let n = walk_next c.args.r.now c.args.text.statements.now c.args.held.now c.args.tally.now c.loop-entry.held c.loop-entry.tally c.loop-entry.live.now c.in-Some.entry.now c.in-Some.inner.now c.in-Some.ensures.cases.0 c.loop-entry.invariant in
+    let is = place_read c.args.text.statements.now c.in-Some.entry.now.place n.s c.index-text-entry.result n.at in
+    let smaller = stmt_smaller c.args.text.statements.now c.in-Some.entry.now.place n.s n.at in
+    let same = ap (λ (s : St). stmt_size (stmt_of s.what)) is in
+    let d = c.decreases in (
+      omega (arith, d, smaller, same),
+      (
+        c.loop-entry.invariant.leads.running,
+        (
+          rw is (fine_at (functions c.args.r.now.linked.now) c.args.r.now.at c.args.r.now.kernel.now c.args.text.statements.now c.in-Some.entry.now.place n.s n.at c.requires.fits),
+          record {
+            first = c.split_at.ensures.front ∙ (n.first ∙ ap (λ (s : St). first_of (stmt_of s.what)) (sym is));
+            second = c.split_at-in-Some.ensures.front ∙ (ap (take c.in-Some.entry.now.second) c.split_at.ensures.back ∙ (n.second ∙ ap (λ (s : St). second_of (stmt_of s.what)) (sym is)));
+          },
+        ),
+      ),
+    )
 
 pub block-returns-in_err-statement-clause-exceeds : goal.block-returns-in_err-statement-clause-exceeds
-block-returns-in_err-statement-clause-exceeds t c = λ is. stmt_stops c.args.r.now c.args.held.now c.loop-s.held c.args.tally.now c.loop-s.tally c.args.text.now c.loop-s.s-index c.s-item.result (slice_get_read c.args.text.now (length c.args.text.now) c.loop-s.s-index c.s-item.result refl c.loop-s-test.true c.s-item.is) c.loop-s.invariant (c.statement.ensures.exceeds (steps_from c.statement.result c.from_residual.result c.in_err-statement.field-0.0 c.from_residual.ensures.1 c.in_err-statement.was is))
+block-returns-in_err-statement-clause-exceeds t c = λ is.
+    let n = walk_next c.args.r.now c.args.text.statements.now c.args.held.now c.args.tally.now c.loop-entry.held c.loop-entry.tally c.loop-entry.live.now c.in-Some.entry.now c.in-Some.inner.now c.in-Some.ensures.cases.0 c.loop-entry.invariant in
+    let read = place_read c.args.text.statements.now c.in-Some.entry.now.place n.s c.index-text-entry.result n.at in
+    walk_stops c.args.r.now c.args.text.statements.now c.args.held.now c.args.tally.now c.loop-entry.held c.loop-entry.tally c.loop-entry.live.now c.in-Some.entry.now c.in-Some.inner.now c.in-Some.ensures.cases.0 c.loop-entry.invariant
+    (subst (λ (s : St). Exceeds c.args.r.now (stmt_items (stmt_of s.what)) (λ st. st) c.loop-entry.held c.loop-entry.tally) read
+    (c.statement.ensures.exceeds (steps_from c.statement.result c.from_residual.result c.in_err-statement.field-0.0 c.from_residual.ensures.1 c.in_err-statement.was is)))
 
-pub block-loop-s-preserved : goal.block-loop-s-preserved
-block-loop-s-preserved t c = stmt_goes c.args.r.now c.args.held.now c.loop-s.held c.args.tally.now c.loop-s.tally c.args.text.now c.loop-s.s-index c.s-item.result (slice_get_read c.args.text.now (length c.args.text.now) c.loop-s.s-index c.s-item.result refl c.loop-s-test.true c.s-item.is) c.loop-s.invariant c.in_ok-statement.ensures.runs
+pub block-loop-entry-preserved : goal.block-loop-entry-preserved
+block-loop-entry-preserved t c =
+    let n = walk_next c.args.r.now c.args.text.statements.now c.args.held.now c.args.tally.now c.loop-entry.held c.loop-entry.tally c.loop-entry.live.now c.in-Some.entry.now c.in-Some.inner.now c.in-Some.ensures.cases.0 c.loop-entry.invariant in
+    let read = place_read c.args.text.statements.now c.in-Some.entry.now.place n.s c.index-text-entry.result n.at in
+    subst (λ live. Walks c.args.r.now c.args.text.statements.now live c.args.held.now c.args.tally.now c.statement.new.held c.statement.new.tally)
+    (sym (c.split_at-in-Some.ensures.back ∙ ap (drop c.in-Some.entry.now.second) c.split_at.ensures.back))
+    (walk_goes c.args.r.now c.args.text.statements.now c.args.held.now c.args.tally.now c.loop-entry.held c.loop-entry.tally c.loop-entry.live.now c.in-Some.entry.now c.in-Some.inner.now c.in-Some.ensures.cases.0 c.loop-entry.invariant
+    (subst (λ (s : St). Runs c.args.r.now (stmt_items (stmt_of s.what)) (λ st. st) (λ st. st) c.loop-entry.held c.loop-entry.tally c.statement.new.held c.statement.new.tally) read c.in_ok-statement.ensures.runs))
 
 pub block-returns-clause-runs : goal.block-returns-clause-runs
-block-returns-clause-runs t c = subst (λ ts. Runs c.args.r.now (items (block_of ts)) (λ st. st) (λ st. st) c.args.held.now c.args.tally.now c.loop-s.held c.loop-s.tally) (take_all c.loop-s.s-index c.args.text.now c.loop-s-test.false) c.loop-s.invariant
+block-returns-clause-runs t c = walk_end c.args.r.now c.args.text.statements.now c.args.held.now c.args.tally.now c.loop-entry.held c.loop-entry.tally c.loop-entry.live.now c.in_default.ensures.cases c.loop-entry.invariant
+
+pub call-body-requires : goal.call-body-requires
+call-body-requires t c = callee_table c.args.r.now c.args.held.now c.args.tally.now c.args.v c.args.place (exprs_of c.args.es.now) c.requires.running.known c.requires.running.linked c.requires.fits c.callee-callee.result c.callee-callee.ensures.linked c.callee-callee.ensures.tables c.callee-callee.ensures.at c.callee-callee.ensures.earlier c.callee-callee.ensures.kernel c.requires.running.tables
 
 pub call-returns-in_err-arguments-clause-exceeds : goal.call-returns-in_err-arguments-clause-exceeds
 call-returns-in_err-arguments-clause-exceeds t c = λ is. exceeds_first c.args.r.now (λ more. Call c.args.place ∷ Write c.args.v ∷ more) (c.values_of.ensures.exceeds (steps_from c.values_of.result c.from_residual.result c.in_err-arguments.field-0.0 c.from_residual.ensures.1 c.in_err-arguments.was is))
 
 pub call-enter-requires-clause-known : goal.call-enter-requires-clause-known
-call-enter-requires-clause-known t c = rw c.at.ensures (call_known c.args.r.now c.args.held.now c.args.tally.now c.args.v c.args.place (exprs_of c.args.es.now) c.requires.running.known c.requires.running.linked c.requires.fits c.callee-callee.result c.callee-callee.ensures.linked c.callee-callee.ensures.at c.callee-callee.ensures.earlier c.callee-callee.ensures.kernel c.values_of.new.tally c.in_ok-arguments.arguments.items c.in_ok-arguments.ensures.numbers.0 c.in_ok-arguments.ensures.numbers.1 c.in_ok-arguments.ensures.runs)
+call-enter-requires-clause-known t c = rw c.at.ensures (call_known c.args.r.now c.args.held.now c.args.tally.now c.args.v c.args.place (exprs_of c.args.es.now) c.requires.running.known c.requires.running.linked c.requires.fits c.callee-callee.result c.callee-callee.ensures.linked c.callee-callee.ensures.tables c.callee-callee.ensures.at c.callee-callee.ensures.earlier c.callee-callee.ensures.kernel c.values_of.new.tally c.in_ok-arguments.arguments.items c.in_ok-arguments.ensures.numbers.0 c.in_ok-arguments.ensures.numbers.1 c.in_ok-arguments.ensures.runs)
 
 pub call-returns-in_err-enter-clause-exceeds : goal.call-returns-in_err-enter-clause-exceeds
-call-returns-in_err-enter-clause-exceeds t c = λ is. call_stops_enter c.args.r.now c.args.held.now c.args.tally.now c.args.v c.args.place (exprs_of c.args.es.now) c.requires.running.known c.requires.running.linked c.requires.fits c.callee-callee.result c.callee-callee.ensures.linked c.callee-callee.ensures.at c.callee-callee.ensures.earlier c.callee-callee.ensures.kernel c.values_of.new.tally c.in_ok-arguments.arguments.items c.in_ok-arguments.ensures.numbers.0 c.in_ok-arguments.ensures.numbers.1 c.in_ok-arguments.ensures.runs c.numbers.result c.numbers.ensures (c.enter.ensures.steps (steps_from c.enter.result c.from_residual-in_err-enter.result c.in_err-enter.field-0.0 c.from_residual-in_err-enter.ensures.1 c.in_err-enter.was is))
+call-returns-in_err-enter-clause-exceeds t c = λ is. call_stops_enter c.args.r.now c.args.held.now c.args.tally.now c.args.v c.args.place (exprs_of c.args.es.now) c.requires.running.known c.requires.running.linked c.requires.fits c.callee-callee.result c.callee-callee.ensures.linked c.callee-callee.ensures.tables c.callee-callee.ensures.at c.callee-callee.ensures.earlier c.callee-callee.ensures.kernel c.values_of.new.tally c.in_ok-arguments.arguments.items c.in_ok-arguments.ensures.numbers.0 c.in_ok-arguments.ensures.numbers.1 c.in_ok-arguments.ensures.runs c.numbers.result c.numbers.ensures (c.enter.ensures.steps (steps_from c.enter.result c.from_residual-in_err-enter.result c.in_err-enter.field-0.0 c.from_residual-in_err-enter.ensures.1 c.in_err-enter.was is))
 
 pub call-block-requires : goal.call-block-requires
 call-block-requires t c =
-    let smaller = call_smaller c.args.r.now c.args.held.now c.args.tally.now c.args.v c.args.place (exprs_of c.args.es.now) c.requires.running.known c.requires.running.linked c.requires.fits c.callee-callee.result c.callee-callee.ensures.linked c.callee-callee.ensures.at c.callee-callee.ensures.earlier c.callee-callee.ensures.kernel in
-    let body = ap (λ ss. block_size (block_of ss)) c.body.ensures in
+    let smaller = call_smaller c.args.r.now c.args.held.now c.args.tally.now c.args.v c.args.place (exprs_of c.args.es.now) c.requires.running.known c.requires.running.linked c.requires.fits c.callee-callee.result c.callee-callee.ensures.linked c.callee-callee.ensures.tables c.callee-callee.ensures.at c.callee-callee.ensures.earlier c.callee-callee.ensures.kernel in
+    let body = ap (λ ss. block_size (block_of ss)) c.body.ensures.statements in
     let d = c.decreases in
-    (omega (arith, d, smaller, body), (callee_running c.args.r.now c.args.held.now c.args.tally.now c.args.v c.args.place (exprs_of c.args.es.now) c.requires.running.known c.requires.running.linked c.requires.fits c.callee-callee.result c.callee-callee.ensures.linked c.callee-callee.ensures.at c.callee-callee.ensures.earlier c.callee-callee.ensures.kernel c.values_of.new.tally c.in_ok-arguments.arguments.items c.in_ok-arguments.ensures.numbers.0 c.in_ok-arguments.ensures.numbers.1 c.in_ok-arguments.ensures.runs c.numbers.result c.numbers.ensures c.in_ok-inner.inner (c.in_ok-inner.ensures c.callee-callee.result.kernel.now (callee_valid c.args.r.now c.args.held.now c.args.tally.now c.args.v c.args.place (exprs_of c.args.es.now) c.requires.running.known c.requires.running.linked c.requires.fits c.callee-callee.result c.callee-callee.ensures.linked c.callee-callee.ensures.at c.callee-callee.ensures.earlier c.callee-callee.ensures.kernel) (sym c.vars.ensures) (ap length c.as_slice.ensures.value ∙ (c.in_ok-arguments.ensures.numbers.0 ∙ sym (arity c.args.r.now c.args.held.now c.args.tally.now c.args.v c.args.place (exprs_of c.args.es.now) c.requires.running.known c.requires.running.linked c.requires.fits c.callee-callee.result c.callee-callee.ensures.linked c.callee-callee.ensures.at c.callee-callee.ensures.earlier c.callee-callee.ensures.kernel))) ∙ ap (fresh c.callee-callee.result.kernel.now) c.as_slice.ensures.value) c.enter.new.self (c.in_ok-enter.ensures.ok ∙ ap (λ g. with_entry c.values_of.new.tally g c.numbers.result) c.at.ensures), rw c.body.ensures (callee_fine c.args.r.now c.args.held.now c.args.tally.now c.args.v c.args.place (exprs_of c.args.es.now) c.requires.running.known c.requires.running.linked c.requires.fits c.callee-callee.result c.callee-callee.ensures.linked c.callee-callee.ensures.at c.callee-callee.ensures.earlier c.callee-callee.ensures.kernel)))
+    (omega (arith, d, smaller, body), (callee_running c.args.r.now c.args.held.now c.args.tally.now c.args.v c.args.place (exprs_of c.args.es.now) c.requires.running.known c.requires.running.linked c.requires.fits c.callee-callee.result c.callee-callee.ensures.linked c.callee-callee.ensures.tables c.callee-callee.ensures.at c.callee-callee.ensures.earlier c.callee-callee.ensures.kernel c.values_of.new.tally c.in_ok-arguments.arguments.items c.in_ok-arguments.ensures.numbers.0 c.in_ok-arguments.ensures.numbers.1 c.in_ok-arguments.ensures.runs c.numbers.result c.numbers.ensures c.in_ok-inner.inner (c.in_ok-inner.ensures c.callee-callee.result.kernel.now (callee_valid c.args.r.now c.args.held.now c.args.tally.now c.args.v c.args.place (exprs_of c.args.es.now) c.requires.running.known c.requires.running.linked c.requires.fits c.callee-callee.result c.callee-callee.ensures.linked c.callee-callee.ensures.tables c.callee-callee.ensures.at c.callee-callee.ensures.earlier c.callee-callee.ensures.kernel) (sym c.vars.ensures) (ap length c.as_slice.ensures.value ∙ (c.in_ok-arguments.ensures.numbers.0 ∙ sym (arity c.args.r.now c.args.held.now c.args.tally.now c.args.v c.args.place (exprs_of c.args.es.now) c.requires.running.known c.requires.running.linked c.requires.fits c.callee-callee.result c.callee-callee.ensures.linked c.callee-callee.ensures.tables c.callee-callee.ensures.at c.callee-callee.ensures.earlier c.callee-callee.ensures.kernel))) ∙ ap (fresh c.callee-callee.result.kernel.now) c.as_slice.ensures.value) c.enter.new.self (c.in_ok-enter.ensures.ok ∙ ap (λ g. with_entry c.values_of.new.tally g c.numbers.result) c.at.ensures), (rw c.body.ensures.statements (callee_fine c.args.r.now c.args.held.now c.args.tally.now c.args.v c.args.place (exprs_of c.args.es.now) c.requires.running.known c.requires.running.linked c.requires.fits c.callee-callee.result c.callee-callee.ensures.linked c.callee-callee.ensures.tables c.callee-callee.ensures.at c.callee-callee.ensures.earlier c.callee-callee.ensures.kernel), has_table c.body.result c.callee-callee.result.kernel.now c.body.ensures.statements c.body.ensures.live)))
 
 pub call-returns-in_err-block-clause-exceeds : goal.call-returns-in_err-block-clause-exceeds
-call-returns-in_err-block-clause-exceeds t c = λ is. call_stops_body c.args.r.now c.args.held.now c.args.tally.now c.args.v c.args.place (exprs_of c.args.es.now) c.requires.running.known c.requires.running.linked c.requires.fits c.callee-callee.result c.callee-callee.ensures.linked c.callee-callee.ensures.at c.callee-callee.ensures.earlier c.callee-callee.ensures.kernel c.values_of.new.tally c.in_ok-arguments.arguments.items c.in_ok-arguments.ensures.numbers.0 c.in_ok-arguments.ensures.numbers.1 c.in_ok-arguments.ensures.runs c.numbers.result c.numbers.ensures c.in_ok-inner.inner (c.in_ok-inner.ensures c.callee-callee.result.kernel.now (callee_valid c.args.r.now c.args.held.now c.args.tally.now c.args.v c.args.place (exprs_of c.args.es.now) c.requires.running.known c.requires.running.linked c.requires.fits c.callee-callee.result c.callee-callee.ensures.linked c.callee-callee.ensures.at c.callee-callee.ensures.earlier c.callee-callee.ensures.kernel) (sym c.vars.ensures) (ap length c.as_slice.ensures.value ∙ (c.in_ok-arguments.ensures.numbers.0 ∙ sym (arity c.args.r.now c.args.held.now c.args.tally.now c.args.v c.args.place (exprs_of c.args.es.now) c.requires.running.known c.requires.running.linked c.requires.fits c.callee-callee.result c.callee-callee.ensures.linked c.callee-callee.ensures.at c.callee-callee.ensures.earlier c.callee-callee.ensures.kernel))) ∙ ap (fresh c.callee-callee.result.kernel.now) c.as_slice.ensures.value) c.enter.new.self (c.in_ok-enter.ensures.ok ∙ ap (λ g. with_entry c.values_of.new.tally g c.numbers.result) c.at.ensures) (subst (λ ss. Exceeds c.callee-callee.result (items (block_of ss)) (λ st. st) c.in_ok-inner.inner c.enter.new.self) c.body.ensures (c.block.ensures.exceeds (steps_from c.block.result c.from_residual-in_err-block.result c.in_err-block.field-0.0 c.from_residual-in_err-block.ensures.1 c.in_err-block.was is)))
+call-returns-in_err-block-clause-exceeds t c = λ is. call_stops_body c.args.r.now c.args.held.now c.args.tally.now c.args.v c.args.place (exprs_of c.args.es.now) c.requires.running.known c.requires.running.linked c.requires.fits c.callee-callee.result c.callee-callee.ensures.linked c.callee-callee.ensures.tables c.callee-callee.ensures.at c.callee-callee.ensures.earlier c.callee-callee.ensures.kernel c.values_of.new.tally c.in_ok-arguments.arguments.items c.in_ok-arguments.ensures.numbers.0 c.in_ok-arguments.ensures.numbers.1 c.in_ok-arguments.ensures.runs c.numbers.result c.numbers.ensures c.in_ok-inner.inner (c.in_ok-inner.ensures c.callee-callee.result.kernel.now (callee_valid c.args.r.now c.args.held.now c.args.tally.now c.args.v c.args.place (exprs_of c.args.es.now) c.requires.running.known c.requires.running.linked c.requires.fits c.callee-callee.result c.callee-callee.ensures.linked c.callee-callee.ensures.tables c.callee-callee.ensures.at c.callee-callee.ensures.earlier c.callee-callee.ensures.kernel) (sym c.vars.ensures) (ap length c.as_slice.ensures.value ∙ (c.in_ok-arguments.ensures.numbers.0 ∙ sym (arity c.args.r.now c.args.held.now c.args.tally.now c.args.v c.args.place (exprs_of c.args.es.now) c.requires.running.known c.requires.running.linked c.requires.fits c.callee-callee.result c.callee-callee.ensures.linked c.callee-callee.ensures.tables c.callee-callee.ensures.at c.callee-callee.ensures.earlier c.callee-callee.ensures.kernel))) ∙ ap (fresh c.callee-callee.result.kernel.now) c.as_slice.ensures.value) c.enter.new.self (c.in_ok-enter.ensures.ok ∙ ap (λ g. with_entry c.values_of.new.tally g c.numbers.result) c.at.ensures) (subst (λ ss. Exceeds c.callee-callee.result (items (block_of ss)) (λ st. st) c.in_ok-inner.inner c.enter.new.self) c.body.ensures.statements (c.block.ensures.exceeds (steps_from c.block.result c.from_residual-in_err-block.result c.in_err-block.field-0.0 c.from_residual-in_err-block.ensures.1 c.in_err-block.was is)))
 
 pub call-take-requires : goal.call-take-requires
-call-take-requires t c = call_label c.args.r.now c.args.held.now c.args.tally.now c.args.v c.args.place (exprs_of c.args.es.now) c.requires.running.known c.requires.running.linked c.requires.fits c.callee-callee.result c.callee-callee.ensures.linked c.callee-callee.ensures.at c.callee-callee.ensures.earlier c.callee-callee.ensures.kernel c.values_of.new.tally c.in_ok-arguments.arguments.items c.in_ok-arguments.ensures.numbers.0 c.in_ok-arguments.ensures.numbers.1 c.in_ok-arguments.ensures.runs c.numbers.result c.numbers.ensures c.in_ok-inner.inner (c.in_ok-inner.ensures c.callee-callee.result.kernel.now (callee_valid c.args.r.now c.args.held.now c.args.tally.now c.args.v c.args.place (exprs_of c.args.es.now) c.requires.running.known c.requires.running.linked c.requires.fits c.callee-callee.result c.callee-callee.ensures.linked c.callee-callee.ensures.at c.callee-callee.ensures.earlier c.callee-callee.ensures.kernel) (sym c.vars.ensures) (ap length c.as_slice.ensures.value ∙ (c.in_ok-arguments.ensures.numbers.0 ∙ sym (arity c.args.r.now c.args.held.now c.args.tally.now c.args.v c.args.place (exprs_of c.args.es.now) c.requires.running.known c.requires.running.linked c.requires.fits c.callee-callee.result c.callee-callee.ensures.linked c.callee-callee.ensures.at c.callee-callee.ensures.earlier c.callee-callee.ensures.kernel))) ∙ ap (fresh c.callee-callee.result.kernel.now) c.as_slice.ensures.value) c.enter.new.self (c.in_ok-enter.ensures.ok ∙ ap (λ g. with_entry c.values_of.new.tally g c.numbers.result) c.at.ensures) c.block.new.held c.block.new.tally (subst (λ ss. Runs c.callee-callee.result (items (block_of ss)) (λ st. st) (λ st. st) c.in_ok-inner.inner c.enter.new.self c.block.new.held c.block.new.tally) c.body.ensures c.in_ok-block.ensures.runs) c.at-2.result c.write_label.result c.at-2.ensures c.write_label.ensures
+call-take-requires t c = call_label c.args.r.now c.args.held.now c.args.tally.now c.args.v c.args.place (exprs_of c.args.es.now) c.requires.running.known c.requires.running.linked c.requires.fits c.callee-callee.result c.callee-callee.ensures.linked c.callee-callee.ensures.tables c.callee-callee.ensures.at c.callee-callee.ensures.earlier c.callee-callee.ensures.kernel c.values_of.new.tally c.in_ok-arguments.arguments.items c.in_ok-arguments.ensures.numbers.0 c.in_ok-arguments.ensures.numbers.1 c.in_ok-arguments.ensures.runs c.numbers.result c.numbers.ensures c.in_ok-inner.inner (c.in_ok-inner.ensures c.callee-callee.result.kernel.now (callee_valid c.args.r.now c.args.held.now c.args.tally.now c.args.v c.args.place (exprs_of c.args.es.now) c.requires.running.known c.requires.running.linked c.requires.fits c.callee-callee.result c.callee-callee.ensures.linked c.callee-callee.ensures.tables c.callee-callee.ensures.at c.callee-callee.ensures.earlier c.callee-callee.ensures.kernel) (sym c.vars.ensures) (ap length c.as_slice.ensures.value ∙ (c.in_ok-arguments.ensures.numbers.0 ∙ sym (arity c.args.r.now c.args.held.now c.args.tally.now c.args.v c.args.place (exprs_of c.args.es.now) c.requires.running.known c.requires.running.linked c.requires.fits c.callee-callee.result c.callee-callee.ensures.linked c.callee-callee.ensures.tables c.callee-callee.ensures.at c.callee-callee.ensures.earlier c.callee-callee.ensures.kernel))) ∙ ap (fresh c.callee-callee.result.kernel.now) c.as_slice.ensures.value) c.enter.new.self (c.in_ok-enter.ensures.ok ∙ ap (λ g. with_entry c.values_of.new.tally g c.numbers.result) c.at.ensures) c.block.new.held c.block.new.tally (subst (λ ss. Runs c.callee-callee.result (items (block_of ss)) (λ st. st) (λ st. st) c.in_ok-inner.inner c.enter.new.self c.block.new.held c.block.new.tally) c.body.ensures.statements c.in_ok-block.ensures.runs) c.at-2.result c.write_label.result c.at-2.ensures c.write_label.ensures
 
 pub call-returns-in_err-take-clause-exceeds : goal.call-returns-in_err-take-clause-exceeds
-call-returns-in_err-take-clause-exceeds t c = λ is. call_stops_write c.args.r.now c.args.held.now c.args.tally.now c.args.v c.args.place (exprs_of c.args.es.now) c.requires.running.known c.requires.running.linked c.requires.fits c.callee-callee.result c.callee-callee.ensures.linked c.callee-callee.ensures.at c.callee-callee.ensures.earlier c.callee-callee.ensures.kernel c.values_of.new.tally c.in_ok-arguments.arguments.items c.in_ok-arguments.ensures.numbers.0 c.in_ok-arguments.ensures.numbers.1 c.in_ok-arguments.ensures.runs c.numbers.result c.numbers.ensures c.in_ok-inner.inner (c.in_ok-inner.ensures c.callee-callee.result.kernel.now (callee_valid c.args.r.now c.args.held.now c.args.tally.now c.args.v c.args.place (exprs_of c.args.es.now) c.requires.running.known c.requires.running.linked c.requires.fits c.callee-callee.result c.callee-callee.ensures.linked c.callee-callee.ensures.at c.callee-callee.ensures.earlier c.callee-callee.ensures.kernel) (sym c.vars.ensures) (ap length c.as_slice.ensures.value ∙ (c.in_ok-arguments.ensures.numbers.0 ∙ sym (arity c.args.r.now c.args.held.now c.args.tally.now c.args.v c.args.place (exprs_of c.args.es.now) c.requires.running.known c.requires.running.linked c.requires.fits c.callee-callee.result c.callee-callee.ensures.linked c.callee-callee.ensures.at c.callee-callee.ensures.earlier c.callee-callee.ensures.kernel))) ∙ ap (fresh c.callee-callee.result.kernel.now) c.as_slice.ensures.value) c.enter.new.self (c.in_ok-enter.ensures.ok ∙ ap (λ g. with_entry c.values_of.new.tally g c.numbers.result) c.at.ensures) c.block.new.held c.block.new.tally (subst (λ ss. Runs c.callee-callee.result (items (block_of ss)) (λ st. st) (λ st. st) c.in_ok-inner.inner c.enter.new.self c.block.new.held c.block.new.tally) c.body.ensures c.in_ok-block.ensures.runs) (c.take.ensures.steps (steps_from c.take.result c.from_residual-in_err-take.result c.in_err-take.field-0.0 c.from_residual-in_err-take.ensures.1 c.in_err-take.was is))
+call-returns-in_err-take-clause-exceeds t c = λ is. call_stops_write c.args.r.now c.args.held.now c.args.tally.now c.args.v c.args.place (exprs_of c.args.es.now) c.requires.running.known c.requires.running.linked c.requires.fits c.callee-callee.result c.callee-callee.ensures.linked c.callee-callee.ensures.tables c.callee-callee.ensures.at c.callee-callee.ensures.earlier c.callee-callee.ensures.kernel c.values_of.new.tally c.in_ok-arguments.arguments.items c.in_ok-arguments.ensures.numbers.0 c.in_ok-arguments.ensures.numbers.1 c.in_ok-arguments.ensures.runs c.numbers.result c.numbers.ensures c.in_ok-inner.inner (c.in_ok-inner.ensures c.callee-callee.result.kernel.now (callee_valid c.args.r.now c.args.held.now c.args.tally.now c.args.v c.args.place (exprs_of c.args.es.now) c.requires.running.known c.requires.running.linked c.requires.fits c.callee-callee.result c.callee-callee.ensures.linked c.callee-callee.ensures.tables c.callee-callee.ensures.at c.callee-callee.ensures.earlier c.callee-callee.ensures.kernel) (sym c.vars.ensures) (ap length c.as_slice.ensures.value ∙ (c.in_ok-arguments.ensures.numbers.0 ∙ sym (arity c.args.r.now c.args.held.now c.args.tally.now c.args.v c.args.place (exprs_of c.args.es.now) c.requires.running.known c.requires.running.linked c.requires.fits c.callee-callee.result c.callee-callee.ensures.linked c.callee-callee.ensures.tables c.callee-callee.ensures.at c.callee-callee.ensures.earlier c.callee-callee.ensures.kernel))) ∙ ap (fresh c.callee-callee.result.kernel.now) c.as_slice.ensures.value) c.enter.new.self (c.in_ok-enter.ensures.ok ∙ ap (λ g. with_entry c.values_of.new.tally g c.numbers.result) c.at.ensures) c.block.new.held c.block.new.tally (subst (λ ss. Runs c.callee-callee.result (items (block_of ss)) (λ st. st) (λ st. st) c.in_ok-inner.inner c.enter.new.self c.block.new.held c.block.new.tally) c.body.ensures.statements c.in_ok-block.ensures.runs) (c.take.ensures.steps (steps_from c.take.result c.from_residual-in_err-take.result c.in_err-take.field-0.0 c.from_residual-in_err-take.ensures.1 c.in_err-take.was is))
 
 pub call-write-requires : goal.call-write-requires
 call-write-requires t c = scalar_long c.args.r.now.kernel.now c.args.held.now c.args.v c.requires.running.shape c.requires.fits.0
 
 pub call-returns-clause-runs : goal.call-returns-clause-runs
-call-returns-clause-runs t c = call_goes c.args.r.now c.args.held.now c.args.tally.now c.args.v c.args.place (exprs_of c.args.es.now) c.requires.running.known c.requires.running.linked c.requires.fits c.callee-callee.result c.callee-callee.ensures.linked c.callee-callee.ensures.at c.callee-callee.ensures.earlier c.callee-callee.ensures.kernel c.values_of.new.tally c.in_ok-arguments.arguments.items c.in_ok-arguments.ensures.numbers.0 c.in_ok-arguments.ensures.numbers.1 c.in_ok-arguments.ensures.runs c.numbers.result c.numbers.ensures c.in_ok-inner.inner (c.in_ok-inner.ensures c.callee-callee.result.kernel.now (callee_valid c.args.r.now c.args.held.now c.args.tally.now c.args.v c.args.place (exprs_of c.args.es.now) c.requires.running.known c.requires.running.linked c.requires.fits c.callee-callee.result c.callee-callee.ensures.linked c.callee-callee.ensures.at c.callee-callee.ensures.earlier c.callee-callee.ensures.kernel) (sym c.vars.ensures) (ap length c.as_slice.ensures.value ∙ (c.in_ok-arguments.ensures.numbers.0 ∙ sym (arity c.args.r.now c.args.held.now c.args.tally.now c.args.v c.args.place (exprs_of c.args.es.now) c.requires.running.known c.requires.running.linked c.requires.fits c.callee-callee.result c.callee-callee.ensures.linked c.callee-callee.ensures.at c.callee-callee.ensures.earlier c.callee-callee.ensures.kernel))) ∙ ap (fresh c.callee-callee.result.kernel.now) c.as_slice.ensures.value) c.enter.new.self (c.in_ok-enter.ensures.ok ∙ ap (λ g. with_entry c.values_of.new.tally g c.numbers.result) c.at.ensures) c.block.new.held c.block.new.tally (subst (λ ss. Runs c.callee-callee.result (items (block_of ss)) (λ st. st) (λ st. st) c.in_ok-inner.inner c.enter.new.self c.block.new.held c.block.new.tally) c.body.ensures c.in_ok-block.ensures.runs) c.at-2.result c.write_label.result c.write.ensures (search rules) c.in_ok-take.ensures.ok c.at-2.ensures c.write_label.ensures
+call-returns-clause-runs t c = call_goes c.args.r.now c.args.held.now c.args.tally.now c.args.v c.args.place (exprs_of c.args.es.now) c.requires.running.known c.requires.running.linked c.requires.fits c.callee-callee.result c.callee-callee.ensures.linked c.callee-callee.ensures.tables c.callee-callee.ensures.at c.callee-callee.ensures.earlier c.callee-callee.ensures.kernel c.values_of.new.tally c.in_ok-arguments.arguments.items c.in_ok-arguments.ensures.numbers.0 c.in_ok-arguments.ensures.numbers.1 c.in_ok-arguments.ensures.runs c.numbers.result c.numbers.ensures c.in_ok-inner.inner (c.in_ok-inner.ensures c.callee-callee.result.kernel.now (callee_valid c.args.r.now c.args.held.now c.args.tally.now c.args.v c.args.place (exprs_of c.args.es.now) c.requires.running.known c.requires.running.linked c.requires.fits c.callee-callee.result c.callee-callee.ensures.linked c.callee-callee.ensures.tables c.callee-callee.ensures.at c.callee-callee.ensures.earlier c.callee-callee.ensures.kernel) (sym c.vars.ensures) (ap length c.as_slice.ensures.value ∙ (c.in_ok-arguments.ensures.numbers.0 ∙ sym (arity c.args.r.now c.args.held.now c.args.tally.now c.args.v c.args.place (exprs_of c.args.es.now) c.requires.running.known c.requires.running.linked c.requires.fits c.callee-callee.result c.callee-callee.ensures.linked c.callee-callee.ensures.tables c.callee-callee.ensures.at c.callee-callee.ensures.earlier c.callee-callee.ensures.kernel))) ∙ ap (fresh c.callee-callee.result.kernel.now) c.as_slice.ensures.value) c.enter.new.self (c.in_ok-enter.ensures.ok ∙ ap (λ g. with_entry c.values_of.new.tally g c.numbers.result) c.at.ensures) c.block.new.held c.block.new.tally (subst (λ ss. Runs c.callee-callee.result (items (block_of ss)) (λ st. st) (λ st. st) c.in_ok-inner.inner c.enter.new.self c.block.new.held c.block.new.tally) c.body.ensures.statements c.in_ok-block.ensures.runs) c.at-2.result c.write_label.result c.write.ensures (search rules) c.in_ok-take.ensures.ok c.at-2.ensures c.write_label.ensures
 
 pub choose-returns-in_err-z-clause-exceeds : goal.choose-returns-in_err-z-clause-exceeds
-choose-returns-in_err-z-clause-exceeds t c = λ is. if_stops_first c.args.r.now (expr_of c.args.e.now) (block_of c.args.s.now) (block_of c.args.t.now) c.args.held.now c.args.tally.now (c.value_of.ensures.exceeds (steps_from c.value_of.result c.from_residual.result c.in_err-z.field-0.0 c.from_residual.ensures.1 c.in_err-z.was is))
+choose-returns-in_err-z-clause-exceeds t c = λ is. if_stops_first c.args.r.now (expr_of c.args.e.now) (block_of c.args.s.statements.now) (block_of c.args.t.statements.now) c.args.held.now c.args.tally.now (c.value_of.ensures.exceeds (steps_from c.value_of.result c.from_residual.result c.in_err-z.field-0.0 c.from_residual.ensures.1 c.in_err-z.was is))
 
 pub choose-block-requires : goal.choose-block-requires
-choose-block-requires t c = let d = c.decreases in (omega (arith, d), (c.in_ok-z.ensures.runs.running, c.requires.fits.1))
+choose-block-requires t c = let d = c.decreases in (omega (arith, d), (c.in_ok-z.ensures.runs.running, (c.requires.fits.1, c.requires.first)))
 
 pub choose-block-requires-else-z-ne0 : goal.choose-block-requires-else-z-ne0
-choose-block-requires-else-z-ne0 t c = let d = c.decreases in (omega (arith, d), (c.in_ok-z.ensures.runs.running, c.requires.fits.2))
+choose-block-requires-else-z-ne0 t c = let d = c.decreases in (omega (arith, d), (c.in_ok-z.ensures.runs.running, (c.requires.fits.2, c.requires.second)))
 
 pub choose-returns-then-z-ne0-clause-runs : goal.choose-returns-then-z-ne0-clause-runs
-choose-returns-then-z-ne0-clause-runs t c = on_ok_weaker c.block.result (λ h. if_goes c.args.r.now (expr_of c.args.e.now) (block_of c.args.s.now) (block_of c.args.t.now) c.args.held.now c.args.tally.now (block_of c.args.s.now) c.in_ok-z.z c.in_ok-z.ensures.runs (picks_yes c.args.r.now (block_of c.args.s.now) (block_of c.args.t.now) c.in_ok-z.z (λ e. c.if-z-ne0.true (zero_in c.in_ok-z.z e))) h) c.block.ensures.runs
+choose-returns-then-z-ne0-clause-runs t c = on_ok_weaker c.block.result (λ h. if_goes c.args.r.now (expr_of c.args.e.now) (block_of c.args.s.statements.now) (block_of c.args.t.statements.now) c.args.held.now c.args.tally.now (block_of c.args.s.statements.now) c.in_ok-z.z c.in_ok-z.ensures.runs (picks_yes c.args.r.now (block_of c.args.s.statements.now) (block_of c.args.t.statements.now) c.in_ok-z.z (λ e. c.if-z-ne0.true (zero_in c.in_ok-z.z e))) h) c.block.ensures.runs
 
 pub choose-returns-then-z-ne0-clause-exceeds : goal.choose-returns-then-z-ne0-clause-exceeds
-choose-returns-then-z-ne0-clause-exceeds t c = λ is. if_stops c.args.r.now (expr_of c.args.e.now) (block_of c.args.s.now) (block_of c.args.t.now) c.args.held.now c.args.tally.now (block_of c.args.s.now) c.in_ok-z.z c.in_ok-z.ensures.runs (picks_yes c.args.r.now (block_of c.args.s.now) (block_of c.args.t.now) c.in_ok-z.z (λ e. c.if-z-ne0.true (zero_in c.in_ok-z.z e))) (c.block.ensures.exceeds is)
+choose-returns-then-z-ne0-clause-exceeds t c = λ is. if_stops c.args.r.now (expr_of c.args.e.now) (block_of c.args.s.statements.now) (block_of c.args.t.statements.now) c.args.held.now c.args.tally.now (block_of c.args.s.statements.now) c.in_ok-z.z c.in_ok-z.ensures.runs (picks_yes c.args.r.now (block_of c.args.s.statements.now) (block_of c.args.t.statements.now) c.in_ok-z.z (λ e. c.if-z-ne0.true (zero_in c.in_ok-z.z e))) (c.block.ensures.exceeds is)
 
 pub choose-returns-else-z-ne0-clause-runs : goal.choose-returns-else-z-ne0-clause-runs
-choose-returns-else-z-ne0-clause-runs t c = on_ok_weaker c.block-else-z-ne0.result (λ h. if_goes c.args.r.now (expr_of c.args.e.now) (block_of c.args.s.now) (block_of c.args.t.now) c.args.held.now c.args.tally.now (block_of c.args.t.now) c.in_ok-z.z c.in_ok-z.ensures.runs (picks_no c.args.r.now (block_of c.args.s.now) (block_of c.args.t.now) c.in_ok-z.z (zero_of c.in_ok-z.z (search rules) c.if-z-ne0.false)) h) c.block-else-z-ne0.ensures.runs
+choose-returns-else-z-ne0-clause-runs t c = on_ok_weaker c.block-else-z-ne0.result (λ h. if_goes c.args.r.now (expr_of c.args.e.now) (block_of c.args.s.statements.now) (block_of c.args.t.statements.now) c.args.held.now c.args.tally.now (block_of c.args.t.statements.now) c.in_ok-z.z c.in_ok-z.ensures.runs (picks_no c.args.r.now (block_of c.args.s.statements.now) (block_of c.args.t.statements.now) c.in_ok-z.z (zero_of c.in_ok-z.z (search rules) c.if-z-ne0.false)) h) c.block-else-z-ne0.ensures.runs
 
 pub choose-returns-else-z-ne0-clause-exceeds : goal.choose-returns-else-z-ne0-clause-exceeds
-choose-returns-else-z-ne0-clause-exceeds t c = λ is. if_stops c.args.r.now (expr_of c.args.e.now) (block_of c.args.s.now) (block_of c.args.t.now) c.args.held.now c.args.tally.now (block_of c.args.t.now) c.in_ok-z.z c.in_ok-z.ensures.runs (picks_no c.args.r.now (block_of c.args.s.now) (block_of c.args.t.now) c.in_ok-z.z (zero_of c.in_ok-z.z (search rules) c.if-z-ne0.false)) (c.block-else-z-ne0.ensures.exceeds is)
+choose-returns-else-z-ne0-clause-exceeds t c = λ is. if_stops c.args.r.now (expr_of c.args.e.now) (block_of c.args.s.statements.now) (block_of c.args.t.statements.now) c.args.held.now c.args.tally.now (block_of c.args.t.statements.now) c.in_ok-z.z c.in_ok-z.ensures.runs (picks_no c.args.r.now (block_of c.args.s.statements.now) (block_of c.args.t.statements.now) c.in_ok-z.z (zero_of c.in_ok-z.z (search rules) c.if-z-ne0.false)) (c.block-else-z-ne0.ensures.exceeds is)
 
 pub rounds-loop-init : goal.rounds-loop-init
-rounds-loop-init t c = leads_start c.args.r.now (λ n is. While (expr_of c.args.e.now) n (block_of c.args.text.now) ∷ is) c.args.n (c.args.n - 0) (omega arith) c.args.held.now c.args.tally.now c.requires.running
+rounds-loop-init t c = leads_start c.args.r.now (λ n is. While (expr_of c.args.e.now) n (block_of c.args.text.statements.now) ∷ is) c.args.n (c.args.n - 0) (omega arith) c.args.held.now c.args.tally.now c.requires.running
 
 pub rounds-value_of-requires-clause-running : goal.rounds-value_of-requires-clause-running
 rounds-value_of-requires-clause-running t c = c.loop.invariant.running
 
 pub rounds-returns-in_err-z-clause-exceeds : goal.rounds-returns-in_err-z-clause-exceeds
-rounds-returns-in_err-z-clause-exceeds t c = λ is. round_stops_first c.args.r.now (λ is. While (expr_of c.args.e.now) c.args.n (block_of c.args.text.now) ∷ is) (expr_of c.args.e.now) (block_of c.args.text.now) c.args.held.now c.loop.held c.args.tally.now c.loop.tally (c.args.n - c.loop.counter) (c.args.n - (c.loop.counter + 1)) (omega (arith, c.loop-test.true)) c.loop.invariant (c.value_of.ensures.exceeds (steps_from c.value_of.result c.from_residual.result c.in_err-z.field-0.0 c.from_residual.ensures.1 c.in_err-z.was is))
+rounds-returns-in_err-z-clause-exceeds t c = λ is. round_stops_first c.args.r.now (λ is. While (expr_of c.args.e.now) c.args.n (block_of c.args.text.statements.now) ∷ is) (expr_of c.args.e.now) (block_of c.args.text.statements.now) c.args.held.now c.loop.held c.args.tally.now c.loop.tally (c.args.n - c.loop.counter) (c.args.n - (c.loop.counter + 1)) (omega (arith, c.loop-test.true)) c.loop.invariant (c.value_of.ensures.exceeds (steps_from c.value_of.result c.from_residual.result c.in_err-z.field-0.0 c.from_residual.ensures.1 c.in_err-z.was is))
 
 pub rounds-returns-then-z-eq0-clause-runs : goal.rounds-returns-then-z-eq0-clause-runs
-rounds-returns-then-z-eq0-clause-runs t c = round_ends c.args.r.now (λ is. While (expr_of c.args.e.now) c.args.n (block_of c.args.text.now) ∷ is) (expr_of c.args.e.now) (block_of c.args.text.now) c.args.held.now c.loop.held c.args.tally.now c.loop.tally (c.args.n - c.loop.counter) (c.args.n - (c.loop.counter + 1)) (omega (arith, c.loop-test.true)) c.in_ok-z.z c.loop.invariant c.in_ok-z.ensures.runs (zero_of c.in_ok-z.z (search rules) c.if-z-eq0.true)
+rounds-returns-then-z-eq0-clause-runs t c = round_ends c.args.r.now (λ is. While (expr_of c.args.e.now) c.args.n (block_of c.args.text.statements.now) ∷ is) (expr_of c.args.e.now) (block_of c.args.text.statements.now) c.args.held.now c.loop.held c.args.tally.now c.loop.tally (c.args.n - c.loop.counter) (c.args.n - (c.loop.counter + 1)) (omega (arith, c.loop-test.true)) c.in_ok-z.z c.loop.invariant c.in_ok-z.ensures.runs (zero_of c.in_ok-z.z (search rules) c.if-z-eq0.true)
 
 pub rounds-returns-in_err-walk-clause-exceeds : goal.rounds-returns-in_err-walk-clause-exceeds
-rounds-returns-in_err-walk-clause-exceeds t c = λ is. round_stops c.args.r.now (λ is. While (expr_of c.args.e.now) c.args.n (block_of c.args.text.now) ∷ is) (expr_of c.args.e.now) (block_of c.args.text.now) c.args.held.now c.loop.held c.args.tally.now c.loop.tally (c.args.n - c.loop.counter) (c.args.n - (c.loop.counter + 1)) (omega (arith, c.loop-test.true)) c.in_ok-z.z c.loop.invariant c.in_ok-z.ensures.runs (λ e. c.if-z-eq0.false (zero_in c.in_ok-z.z e)) (c.walk.ensures.steps (steps_from c.walk.result c.from_residual-in_err-walk.result c.in_err-walk.field-0.0 c.from_residual-in_err-walk.ensures.1 c.in_err-walk.was is))
+rounds-returns-in_err-walk-clause-exceeds t c = λ is. round_stops c.args.r.now (λ is. While (expr_of c.args.e.now) c.args.n (block_of c.args.text.statements.now) ∷ is) (expr_of c.args.e.now) (block_of c.args.text.statements.now) c.args.held.now c.loop.held c.args.tally.now c.loop.tally (c.args.n - c.loop.counter) (c.args.n - (c.loop.counter + 1)) (omega (arith, c.loop-test.true)) c.in_ok-z.z c.loop.invariant c.in_ok-z.ensures.runs (λ e. c.if-z-eq0.false (zero_in c.in_ok-z.z e)) (c.walk.ensures.steps (steps_from c.walk.result c.from_residual-in_err-walk.result c.in_err-walk.field-0.0 c.from_residual-in_err-walk.ensures.1 c.in_err-walk.was is))
 
 pub rounds-block-requires : goal.rounds-block-requires
-rounds-block-requires t c = let d = c.decreases in (omega (arith, d), (rw c.in_ok-walk.ensures.ok (steps_running c.args.r.now c.loop.held c.value_of.new.tally 1 c.in_ok-z.ensures.runs.running), c.requires.fits.1))
+rounds-block-requires t c = let d = c.decreases in (omega (arith, d), (rw c.in_ok-walk.ensures.ok (steps_running c.args.r.now c.loop.held c.value_of.new.tally 1 c.in_ok-z.ensures.runs.running), (c.requires.fits.1, c.requires.table)))
 
 pub rounds-returns-in_err-block-clause-exceeds : goal.rounds-returns-in_err-block-clause-exceeds
-rounds-returns-in_err-block-clause-exceeds t c = λ is. round_stops_then c.args.r.now (λ is. While (expr_of c.args.e.now) c.args.n (block_of c.args.text.now) ∷ is) (expr_of c.args.e.now) (block_of c.args.text.now) c.args.held.now c.loop.held c.args.tally.now c.loop.tally (c.args.n - c.loop.counter) (c.args.n - (c.loop.counter + 1)) (omega (arith, c.loop-test.true)) c.in_ok-z.z c.loop.invariant c.in_ok-z.ensures.runs (λ e. c.if-z-eq0.false (zero_in c.in_ok-z.z e)) c.in_ok-walk.ensures.ok (c.block.ensures.exceeds (steps_from c.block.result c.from_residual-in_err-block.result c.in_err-block.field-0.0 c.from_residual-in_err-block.ensures.1 c.in_err-block.was is))
+rounds-returns-in_err-block-clause-exceeds t c = λ is. round_stops_then c.args.r.now (λ is. While (expr_of c.args.e.now) c.args.n (block_of c.args.text.statements.now) ∷ is) (expr_of c.args.e.now) (block_of c.args.text.statements.now) c.args.held.now c.loop.held c.args.tally.now c.loop.tally (c.args.n - c.loop.counter) (c.args.n - (c.loop.counter + 1)) (omega (arith, c.loop-test.true)) c.in_ok-z.z c.loop.invariant c.in_ok-z.ensures.runs (λ e. c.if-z-eq0.false (zero_in c.in_ok-z.z e)) c.in_ok-walk.ensures.ok (c.block.ensures.exceeds (steps_from c.block.result c.from_residual-in_err-block.result c.in_err-block.field-0.0 c.from_residual-in_err-block.ensures.1 c.in_err-block.was is))
 
 pub rounds-loop-preserved : goal.rounds-loop-preserved
-rounds-loop-preserved t c = round_goes c.args.r.now (λ is. While (expr_of c.args.e.now) c.args.n (block_of c.args.text.now) ∷ is) (expr_of c.args.e.now) (block_of c.args.text.now) c.args.held.now c.loop.held c.args.tally.now c.loop.tally (c.args.n - c.loop.counter) (c.args.n - (c.loop.counter + 1)) (omega (arith, c.loop-test.true)) c.in_ok-z.z c.loop.invariant c.in_ok-z.ensures.runs (λ e. c.if-z-eq0.false (zero_in c.in_ok-z.z e)) c.in_ok-walk.ensures.ok c.in_ok-block.ensures.runs
+rounds-loop-preserved t c = round_goes c.args.r.now (λ is. While (expr_of c.args.e.now) c.args.n (block_of c.args.text.statements.now) ∷ is) (expr_of c.args.e.now) (block_of c.args.text.statements.now) c.args.held.now c.loop.held c.args.tally.now c.loop.tally (c.args.n - c.loop.counter) (c.args.n - (c.loop.counter + 1)) (omega (arith, c.loop-test.true)) c.in_ok-z.z c.loop.invariant c.in_ok-z.ensures.runs (λ e. c.if-z-eq0.false (zero_in c.in_ok-z.z e)) c.in_ok-walk.ensures.ok c.in_ok-block.ensures.runs
 
 pub rounds-returns-clause-runs : goal.rounds-returns-clause-runs
-rounds-returns-clause-runs t c = rounds_end c.args.r.now (λ is. While (expr_of c.args.e.now) c.args.n (block_of c.args.text.now) ∷ is) (expr_of c.args.e.now) (block_of c.args.text.now) c.args.held.now c.loop.held c.args.tally.now c.loop.tally (c.args.n - c.loop.counter) (omega (arith, c.loop-test.false)) c.loop.invariant
+rounds-returns-clause-runs t c = rounds_end c.args.r.now (λ is. While (expr_of c.args.e.now) c.args.n (block_of c.args.text.statements.now) ∷ is) (expr_of c.args.e.now) (block_of c.args.text.statements.now) c.args.held.now c.loop.held c.args.tally.now c.loop.tally (c.args.n - c.loop.counter) (omega (arith, c.loop-test.false)) c.loop.invariant
 
 pub turns-loop-init : goal.turns-loop-init
-turns-loop-init t c = leads_start c.args.r.now (λ n is. Repeat n (block_of c.args.text.now) ∷ is) c.args.n (c.args.n - 0) (omega arith) c.args.held.now c.args.tally.now c.requires.running
+turns-loop-init t c = leads_start c.args.r.now (λ n is. Repeat n (block_of c.args.text.statements.now) ∷ is) c.args.n (c.args.n - 0) (omega arith) c.args.held.now c.args.tally.now c.requires.running
 
 pub turns-returns-in_err-walk-clause-exceeds : goal.turns-returns-in_err-walk-clause-exceeds
-turns-returns-in_err-walk-clause-exceeds t c = λ is. turn_stops c.args.r.now (λ is. Repeat c.args.n (block_of c.args.text.now) ∷ is) (block_of c.args.text.now) c.args.held.now c.loop.held c.args.tally.now c.loop.tally (c.args.n - c.loop.counter) (c.args.n - (c.loop.counter + 1)) (omega (arith, c.loop-test.true)) c.loop.invariant (c.walk.ensures.steps (steps_from c.walk.result c.from_residual.result c.in_err-walk.field-0.0 c.from_residual.ensures.1 c.in_err-walk.was is))
+turns-returns-in_err-walk-clause-exceeds t c = λ is. turn_stops c.args.r.now (λ is. Repeat c.args.n (block_of c.args.text.statements.now) ∷ is) (block_of c.args.text.statements.now) c.args.held.now c.loop.held c.args.tally.now c.loop.tally (c.args.n - c.loop.counter) (c.args.n - (c.loop.counter + 1)) (omega (arith, c.loop-test.true)) c.loop.invariant (c.walk.ensures.steps (steps_from c.walk.result c.from_residual.result c.in_err-walk.field-0.0 c.from_residual.ensures.1 c.in_err-walk.was is))
 
 pub turns-block-requires : goal.turns-block-requires
-turns-block-requires t c = let d = c.decreases in (omega (arith, d), (rw c.in_ok-walk.ensures.ok (steps_running c.args.r.now c.loop.held c.loop.tally 1 c.loop.invariant.running), c.requires.fits))
+turns-block-requires t c = let d = c.decreases in (omega (arith, d), (rw c.in_ok-walk.ensures.ok (steps_running c.args.r.now c.loop.held c.loop.tally 1 c.loop.invariant.running), (c.requires.fits, c.requires.table)))
 
 pub turns-returns-in_err-block-clause-exceeds : goal.turns-returns-in_err-block-clause-exceeds
-turns-returns-in_err-block-clause-exceeds t c = λ is. turn_stops_then c.args.r.now (λ is. Repeat c.args.n (block_of c.args.text.now) ∷ is) (block_of c.args.text.now) c.args.held.now c.loop.held c.args.tally.now c.loop.tally (c.args.n - c.loop.counter) (c.args.n - (c.loop.counter + 1)) (omega (arith, c.loop-test.true)) c.loop.invariant c.in_ok-walk.ensures.ok (c.block.ensures.exceeds (steps_from c.block.result c.from_residual-in_err-block.result c.in_err-block.field-0.0 c.from_residual-in_err-block.ensures.1 c.in_err-block.was is))
+turns-returns-in_err-block-clause-exceeds t c = λ is. turn_stops_then c.args.r.now (λ is. Repeat c.args.n (block_of c.args.text.statements.now) ∷ is) (block_of c.args.text.statements.now) c.args.held.now c.loop.held c.args.tally.now c.loop.tally (c.args.n - c.loop.counter) (c.args.n - (c.loop.counter + 1)) (omega (arith, c.loop-test.true)) c.loop.invariant c.in_ok-walk.ensures.ok (c.block.ensures.exceeds (steps_from c.block.result c.from_residual-in_err-block.result c.in_err-block.field-0.0 c.from_residual-in_err-block.ensures.1 c.in_err-block.was is))
 
 pub turns-loop-preserved : goal.turns-loop-preserved
-turns-loop-preserved t c = turn_goes c.args.r.now (λ is. Repeat c.args.n (block_of c.args.text.now) ∷ is) (block_of c.args.text.now) c.args.held.now c.loop.held c.args.tally.now c.loop.tally (c.args.n - c.loop.counter) (c.args.n - (c.loop.counter + 1)) (omega (arith, c.loop-test.true)) c.loop.invariant c.in_ok-walk.ensures.ok c.in_ok-block.ensures.runs
+turns-loop-preserved t c = turn_goes c.args.r.now (λ is. Repeat c.args.n (block_of c.args.text.statements.now) ∷ is) (block_of c.args.text.statements.now) c.args.held.now c.loop.held c.args.tally.now c.loop.tally (c.args.n - c.loop.counter) (c.args.n - (c.loop.counter + 1)) (omega (arith, c.loop-test.true)) c.loop.invariant c.in_ok-walk.ensures.ok c.in_ok-block.ensures.runs
 
 pub turns-returns-clause-runs : goal.turns-returns-clause-runs
-turns-returns-clause-runs t c = turns_end c.args.r.now (λ is. Repeat c.args.n (block_of c.args.text.now) ∷ is) (block_of c.args.text.now) c.args.held.now c.loop.held c.args.tally.now c.loop.tally (c.args.n - c.loop.counter) (omega (arith, c.loop-test.false)) c.loop.invariant
+turns-returns-clause-runs t c = turns_end c.args.r.now (λ is. Repeat c.args.n (block_of c.args.text.statements.now) ∷ is) (block_of c.args.text.statements.now) c.args.held.now c.loop.held c.args.tally.now c.loop.tally (c.args.n - c.loop.counter) (omega (arith, c.loop-test.false)) c.loop.invariant
 
 pub statement-choose-requires : goal.statement-choose-requires
 statement-choose-requires t c =
@@ -136,21 +183,21 @@ statement-choose-requires t c =
     let a = ap (λ ss. block_size (block_of ss)) c.as_slice.ensures in
     let b = ap (λ ss. block_size (block_of ss)) c.as_slice-in-If.ensures in
     let d = c.decreases in
-    (omega (arith, d, e, a, b), (c.requires.running, rw (c.as_slice.ensures, c.as_slice-in-If.ensures) (subst (Fine (functions c.args.r.now.linked.now) c.args.r.now.at c.args.r.now.kernel.now) (ap stmt_of c.in-If.is ∙ text-If c.in-If.e c.in-If.s c.in-If.t) c.requires.fits)))
+    (omega (arith, d, e, a, b), (c.requires.running, (rw (c.as_slice.ensures, c.as_slice-in-If.ensures) (subst (Fine (functions c.args.r.now.linked.now) c.args.r.now.at c.args.r.now.kernel.now) (ap stmt_of c.in-If.is ∙ text-If c.in-If.e c.in-If.s c.in-If.t) c.requires.fits), (record { live = c.requires.tables.first ∙ (ap first_of (ap stmt_of c.in-If.is ∙ text-If c.in-If.e c.in-If.s c.in-If.t) ∙ sym (ap (λ ss. table_of (block_of ss)) c.as_slice.ensures)) }, record { live = c.requires.tables.second ∙ (ap second_of (ap stmt_of c.in-If.is ∙ text-If c.in-If.e c.in-If.s c.in-If.t) ∙ sym (ap (λ ss. table_of (block_of ss)) c.as_slice-in-If.ensures)) }))))
 
 pub statement-rounds-requires : goal.statement-rounds-requires
 statement-rounds-requires t c =
     let e = ap stmt_size (ap stmt_of c.in-While.is ∙ text-While c.in-While.e c.in-While.n c.in-While.s) in
     let a = ap (λ ss. block_size (block_of ss)) c.as_slice-in-While.ensures in
     let d = c.decreases in
-    (omega (arith, d, e, a), (c.requires.running, rw c.as_slice-in-While.ensures (subst (Fine (functions c.args.r.now.linked.now) c.args.r.now.at c.args.r.now.kernel.now) (ap stmt_of c.in-While.is ∙ text-While c.in-While.e c.in-While.n c.in-While.s) c.requires.fits)))
+    (omega (arith, d, e, a), (c.requires.running, (rw c.as_slice-in-While.ensures (subst (Fine (functions c.args.r.now.linked.now) c.args.r.now.at c.args.r.now.kernel.now) (ap stmt_of c.in-While.is ∙ text-While c.in-While.e c.in-While.n c.in-While.s) c.requires.fits), record { live = c.requires.tables.first ∙ (ap first_of (ap stmt_of c.in-While.is ∙ text-While c.in-While.e c.in-While.n c.in-While.s) ∙ sym (ap (λ ss. table_of (block_of ss)) c.as_slice-in-While.ensures)) })))
 
 pub statement-turns-requires : goal.statement-turns-requires
 statement-turns-requires t c =
     let e = ap stmt_size (ap stmt_of c.in-Repeat.is ∙ text-Repeat c.in-Repeat.n c.in-Repeat.s) in
     let a = ap (λ ss. block_size (block_of ss)) c.as_slice-in-Repeat.ensures in
     let d = c.decreases in
-    (omega (arith, d, e, a), (c.requires.running, rw c.as_slice-in-Repeat.ensures (subst (Fine (functions c.args.r.now.linked.now) c.args.r.now.at c.args.r.now.kernel.now) (ap stmt_of c.in-Repeat.is ∙ text-Repeat c.in-Repeat.n c.in-Repeat.s) c.requires.fits)))
+    (omega (arith, d, e, a), (c.requires.running, (rw c.as_slice-in-Repeat.ensures (subst (Fine (functions c.args.r.now.linked.now) c.args.r.now.at c.args.r.now.kernel.now) (ap stmt_of c.in-Repeat.is ∙ text-Repeat c.in-Repeat.n c.in-Repeat.s) c.requires.fits), record { live = c.requires.tables.first ∙ (ap first_of (ap stmt_of c.in-Repeat.is ∙ text-Repeat c.in-Repeat.n c.in-Repeat.s) ∙ sym (ap (λ ss. table_of (block_of ss)) c.as_slice-in-Repeat.ensures)) })))
 
 pub statement-call-requires : goal.statement-call-requires
 statement-call-requires t c =
