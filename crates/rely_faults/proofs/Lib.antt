@@ -5,6 +5,7 @@ pub mod Ending
 pub mod Enough
 pub mod Finishing
 pub mod Following
+pub mod Idling
 pub mod Keeping
 pub mod Looping
 pub mod Reading

@@ -19,26 +19,34 @@ pub record Leads (r : Running) (a b : List Item → List Item) (u v : Point) : T
   pub goes : (x : Trying) (more : List Item) (stack : List ℤ) → Stands r x (standing (a more) stack u.store) u → Stands r x (standing (b more) stack v.store) v
 
 module _ (r : Running) where
-  leads_first : (a : List Item → List Item) (u : Point) → IsRunning r u.store → Leads r a a u u
+  pub leads_first : (a : List Item → List Item) (u : Point) → IsRunning r u.store → Leads r a a u u
   leads_first a u h = record { running = h; limit = refl; goes = λ x more st stands. stands }
+
+  -- the same items, written otherwise
+  pub leads_same : {a b d : List Item → List Item} {u v : Point} → ((more : List Item) → b more ≡ d more) → Leads r a b u v → Leads r a d u v
+  leads_same {a} {b} {d} {u} {v} e y = record {
+    running = y.running;
+    limit = y.limit;
+    goes = λ x more st stands. subst (λ is. Stands r x (standing is st v.store) v) (e more) (y.goes x more st stands);
+  }
 
   pub leads_start : (f : ℕ → List Item → List Item) (n m : ℕ) → n ≡ m → (u : Point) → IsRunning r u.store → Leads r (f n) (f m) u u
   leads_start f n m e u h = subst (λ k. Leads r (f n) (f k) u u) e (leads_first (f n) u h)
 
   -- what follows
-  then_runs : {a b d : List Item → List Item} {u v w : Point} → Leads r a (λ more. b (d more)) u v → Runs r b (λ st. st) (λ st. st) v w → Leads r a d u w
+  pub then_runs : {a b d : List Item → List Item} {u v w : Point} → Leads r a (λ more. b (d more)) u v → Runs r b (λ st. st) (λ st. st) v w → Leads r a d u w
   then_runs {a} {b} {d} y z = record {
     running = z.running;
     limit = z.limit ∙ y.limit;
     goes = λ x more st stands. z.goes x (d more) st (y.goes x more st stands);
   }
 
-  then_exceeds : {a b : List Item → List Item} {u v : Point} {g : Lcg} (d : List Item → List Item) → Leads r a (λ more. b (d more)) u v → Exceeds r b (λ st. st) v g → Exceeds r a (λ st. st) u g
+  pub then_exceeds : {a b : List Item → List Item} {u v : Point} {g : Lcg} (d : List Item → List Item) → Leads r a (λ more. b (d more)) u v → Exceeds r b (λ st. st) v g → Exceeds r a (λ st. st) u g
   then_exceeds {a} {b} {u} {v} {g} d y z = record {
     ends = λ x more st stands. subst (λ n. Ends r x n g) y.limit (z.ends x (d more) st (y.goes x more st stands));
   }
 
-  last_runs : {a : List Item → List Item} {u v : Point} → Leads r a (λ more. more) u v → Runs r a (λ st. st) (λ st. st) u v
+  pub last_runs : {a : List Item → List Item} {u v : Point} → Leads r a (λ more. more) u v → Runs r a (λ st. st) (λ st. st) u v
   last_runs y = record { running = y.running; limit = y.limit; goes = y.goes }
 
   -- ---- a repeat

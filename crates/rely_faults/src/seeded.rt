@@ -13,7 +13,7 @@ use crate::walk::block;
 use rand_pcg::Lcg128Xsl64;
 use rely_hard::Hardware;
 use rely_kernel::{Kernel, Setting, Store};
-use rely_machine::{Held, RunFault};
+use rely_machine::{Held, RunFault, Text, live_statements};
 use std::alloc::Global;
 
 /// A run of a kernel that calls nothing, from a start, in which a step of reliability p may be wrong. Where p is one it is
@@ -51,7 +51,13 @@ pub fn trial(
         hardware: h,
         setting: t,
     };
-    block(&running, running.body(), &mut held, &mut tally, words)?;
+    let body = running.body();
+    let live = live_statements(alloc, body)?;
+    let text = Text {
+        statements: body,
+        live: live.as_slice(),
+    };
+    block(&running, text, &mut held, &mut tally, words)?;
     Ok(Tried {
         store: held.into_store(alloc)?,
         steps: tally.steps(),

@@ -3,13 +3,14 @@ ghost use Rattle.rely_kernel.specs.Machine.{expr_items, items, stmt_items};
 ghost use Rattle.rely_kernel.specs.Text.{Stmt, block_of, expr_of, stmt_of};
 ghost use Rattle.rely_kernel.specs.Valid.{ExprFits};
 ghost use Rattle.rely_kernel.specs.Running.{AllFine, Fine};
+ghost use Rattle.rely_machine.specs.Idle.{HasTable, HasTables};
 ghost use Rattle.rely_faults.specs.Going.{Exceeds, IsRunning, Runs, here};
 
 use crate::running::Running;
 use crate::tally::Tally;
 use rand_pcg::Lcg128Xsl64;
-use rely_kernel::{Ex, St, StKind};
-use rely_machine::{Held, RunFault, operate};
+use rely_kernel::{Ex, StKind};
+use rely_machine::{Held, Part, RunFault, Text, operate};
 
 /// The value of an expression: operands from left to right, an index before its array.
 pub fn value_of(
@@ -98,22 +99,33 @@ fn give(
     Ok(())
 }
 
-/// What a text does to the store.
+/// What a text does to the store. Idle statements are passed over.
 #[cycle(text)]
 pub fn block(
     r: &Running,
-    text: &[St],
+    text: Text,
     held: &mut Held,
     tally: &mut Tally,
     words: &mut Lcg128Xsl64,
 ) -> Result<(), RunFault>
     requires running { IsRunning r.now held.old }
-    requires fits { AllFine (r.now.kernel.now ∷ []) 0 r.now.kernel.now (block_of text.now) }
-    ensures runs { OnOk result (Runs r.now (items (block_of text.now)) (λ st. st) (λ st. st) (here held.old tally.old words.old) (here held.new tally.new words.new)) }
-    ensures exceeds { OnErr result (Exceeds r.now (items (block_of text.now)) (λ st. st) (here held.old tally.old words.old) words.new) }
+    requires fits { AllFine (r.now.kernel.now ∷ []) 0 r.now.kernel.now (block_of text.statements.now) }
+    requires table { HasTable text }
+    ensures runs { OnOk result (Runs r.now (items (block_of text.entry.statements.now)) (λ st. st) (λ st. st) (here held.old tally.old words.old) (here held.new tally.new words.new)) }
+    ensures exceeds { OnErr result (Exceeds r.now (items (block_of text.entry.statements.now)) (λ st. st) (here held.old tally.old words.old) words.new) }
 {
-    for s in text {
-        statement(r, &s.what, held, tally, words)?;
+    let mut live = text.live;
+    while let Some((entry, inner)) = live.split_first() {
+        let (first, rest) = inner.split_at(entry.first);
+        let (second, behind) = rest.split_at(entry.second);
+        let what = &text.statements[entry.place].what;
+        let part = Part {
+            what,
+            first,
+            second,
+        };
+        statement(r, part, held, tally, words)?;
+        live = behind;
     }
     Ok(())
 }
@@ -122,22 +134,45 @@ pub fn block(
 #[cycle(text)]
 fn statement(
     r: &Running,
-    what: &StKind,
+    part: Part,
     held: &mut Held,
     tally: &mut Tally,
     words: &mut Lcg128Xsl64,
 ) -> Result<(), RunFault>
     requires running { IsRunning r.now held.old }
-    requires fits { Fine (r.now.kernel.now ∷ []) 0 r.now.kernel.now (stmt_of what.now) }
-    ensures runs { OnOk result (Runs r.now (stmt_items (stmt_of what.now)) (λ st. st) (λ st. st) (here held.old tally.old words.old) (here held.new tally.new words.new)) }
-    ensures exceeds { OnErr result (Exceeds r.now (stmt_items (stmt_of what.now)) (λ st. st) (here held.old tally.old words.old) words.new) }
+    requires fits { Fine (r.now.kernel.now ∷ []) 0 r.now.kernel.now (stmt_of part.what.now) }
+    requires tables { HasTables part }
+    ensures runs { OnOk result (Runs r.now (stmt_items (stmt_of part.entry.what.now)) (λ st. st) (λ st. st) (here held.old tally.old words.old) (here held.new tally.new words.new)) }
+    ensures exceeds { OnErr result (Exceeds r.now (stmt_items (stmt_of part.entry.what.now)) (λ st. st) (here held.old tally.old words.old) words.new) }
 {
-    match what {
+    match part.what {
         StKind::Set(v, e) => set(r, *v, e, held, tally, words),
         StKind::SetElem(a, i, e) => set_element(r, *a, i, e, held, tally, words),
-        StKind::If(e, s, t) => choose(r, e, s.as_slice(), t.as_slice(), held, tally, words),
-        StKind::While(e, n, s) => rounds(r, e, *n, s.as_slice(), held, tally, words),
-        StKind::Repeat(n, s) => turns(r, *n, s.as_slice(), held, tally, words),
+        StKind::If(e, s, t) => {
+            let s = Text {
+                statements: s.as_slice(),
+                live: part.first,
+            };
+            let t = Text {
+                statements: t.as_slice(),
+                live: part.second,
+            };
+            choose(r, e, s, t, held, tally, words)
+        }
+        StKind::While(e, n, s) => {
+            let text = Text {
+                statements: s.as_slice(),
+                live: part.first,
+            };
+            rounds(r, e, *n, text, held, tally, words)
+        }
+        StKind::Repeat(n, s) => {
+            let text = Text {
+                statements: s.as_slice(),
+                live: part.first,
+            };
+            turns(r, *n, text, held, tally, words)
+        }
         StKind::Result(e) => give(r, e, held, tally, words),
         StKind::Call(_, _, _) => unreachable!(),
     }
@@ -147,16 +182,18 @@ fn statement(
 fn choose(
     r: &Running,
     e: &Ex,
-    s: &[St],
-    t: &[St],
+    s: Text,
+    t: Text,
     held: &mut Held,
     tally: &mut Tally,
     words: &mut Lcg128Xsl64,
 ) -> Result<(), RunFault>
     requires running { IsRunning r.now held.old }
-    requires fits { Fine (r.now.kernel.now ∷ []) 0 r.now.kernel.now (Stmt.If (expr_of e.now) (block_of s.now) (block_of t.now)) }
-    ensures runs { OnOk result (Runs r.now (stmt_items (Stmt.If (expr_of e.now) (block_of s.now) (block_of t.now))) (λ st. st) (λ st. st) (here held.old tally.old words.old) (here held.new tally.new words.new)) }
-    ensures exceeds { OnErr result (Exceeds r.now (stmt_items (Stmt.If (expr_of e.now) (block_of s.now) (block_of t.now))) (λ st. st) (here held.old tally.old words.old) words.new) }
+    requires fits { Fine (r.now.kernel.now ∷ []) 0 r.now.kernel.now (Stmt.If (expr_of e.now) (block_of s.statements.now) (block_of t.statements.now)) }
+    requires first { HasTable s }
+    requires second { HasTable t }
+    ensures runs { OnOk result (Runs r.now (stmt_items (Stmt.If (expr_of e.now) (block_of s.entry.statements.now) (block_of t.entry.statements.now))) (λ st. st) (λ st. st) (here held.old tally.old words.old) (here held.new tally.new words.new)) }
+    ensures exceeds { OnErr result (Exceeds r.now (stmt_items (Stmt.If (expr_of e.now) (block_of s.entry.statements.now) (block_of t.entry.statements.now))) (λ st. st) (here held.old tally.old words.old) words.new) }
 {
     let z = value_of(r, e, held, tally, words)?;
     if z != 0 {
@@ -170,15 +207,16 @@ fn choose(
 fn turns(
     r: &Running,
     n: u32,
-    text: &[St],
+    text: Text,
     held: &mut Held,
     tally: &mut Tally,
     words: &mut Lcg128Xsl64,
 ) -> Result<(), RunFault>
     requires running { IsRunning r.now held.old }
-    requires fits { Fine (r.now.kernel.now ∷ []) 0 r.now.kernel.now (Stmt.Repeat n (block_of text.now)) }
-    ensures runs { OnOk result (Runs r.now (stmt_items (Stmt.Repeat n (block_of text.now))) (λ st. st) (λ st. st) (here held.old tally.old words.old) (here held.new tally.new words.new)) }
-    ensures exceeds { OnErr result (Exceeds r.now (stmt_items (Stmt.Repeat n (block_of text.now))) (λ st. st) (here held.old tally.old words.old) words.new) }
+    requires fits { Fine (r.now.kernel.now ∷ []) 0 r.now.kernel.now (Stmt.Repeat n (block_of text.statements.now)) }
+    requires table { HasTable text }
+    ensures runs { OnOk result (Runs r.now (stmt_items (Stmt.Repeat n (block_of text.entry.statements.now))) (λ st. st) (λ st. st) (here held.old tally.old words.old) (here held.new tally.new words.new)) }
+    ensures exceeds { OnErr result (Exceeds r.now (stmt_items (Stmt.Repeat n (block_of text.entry.statements.now))) (λ st. st) (here held.old tally.old words.old) words.new) }
 {
     for _ in 0..n {
         tally.walk()?;
@@ -193,15 +231,16 @@ fn rounds(
     r: &Running,
     e: &Ex,
     n: u32,
-    text: &[St],
+    text: Text,
     held: &mut Held,
     tally: &mut Tally,
     words: &mut Lcg128Xsl64,
 ) -> Result<(), RunFault>
     requires running { IsRunning r.now held.old }
-    requires fits { Fine (r.now.kernel.now ∷ []) 0 r.now.kernel.now (Stmt.While (expr_of e.now) n (block_of text.now)) }
-    ensures runs { OnOk result (Runs r.now (stmt_items (Stmt.While (expr_of e.now) n (block_of text.now))) (λ st. st) (λ st. st) (here held.old tally.old words.old) (here held.new tally.new words.new)) }
-    ensures exceeds { OnErr result (Exceeds r.now (stmt_items (Stmt.While (expr_of e.now) n (block_of text.now))) (λ st. st) (here held.old tally.old words.old) words.new) }
+    requires fits { Fine (r.now.kernel.now ∷ []) 0 r.now.kernel.now (Stmt.While (expr_of e.now) n (block_of text.statements.now)) }
+    requires table { HasTable text }
+    ensures runs { OnOk result (Runs r.now (stmt_items (Stmt.While (expr_of e.now) n (block_of text.entry.statements.now))) (λ st. st) (λ st. st) (here held.old tally.old words.old) (here held.new tally.new words.new)) }
+    ensures exceeds { OnErr result (Exceeds r.now (stmt_items (Stmt.While (expr_of e.now) n (block_of text.entry.statements.now))) (λ st. st) (here held.old tally.old words.old) words.new) }
 {
     for _ in 0..n {
         let z = value_of(r, e, held, tally, words)?;

@@ -1,5 +1,5 @@
 -- Idle statements are passed over: the run that stands before them stands behind them.
-use Rattle.std.proofs.Common.{◌≡◌, ℕ, zero, suc, ◌==◌, ◌&&◌, ◌||◌, pos, negsuc, Bool, true, false, List, ◌∷◌, take, drop, length, inl, inr, refl, sym, ap, subst, ◌∙◌}
+use Rattle.std.proofs.Common.{◌≡◌, ℕ, zero, suc, ◌==◌, pos, negsuc, Bool, true, false, List, ◌∷◌, take, drop, length, inl, inr, refl, sym, ap, subst, ◌∙◌}
 use Rattle.std.specs.Prelude.{◌⊎◌}
 use Rattle.std.proofs.lemmas.Bool.{eqb-true, false≢true}
 use Rattle.rely_kernel.specs.declared.kernel.St.{St}
@@ -12,16 +12,8 @@ use Rattle.rely_machine.specs.Going.{Counts, Exceeds, IsRunning, Runs}
 use Rattle.rely_machine.specs.Idle.{all_idle, idle_choice, is_idle, table_of}
 use Rattle.rely_machine.proofs.Listing.{stmts_at}
 use Rattle.rely_machine.proofs.Looping.{Leads, if_goes, last_runs, leads_first, leads_same, picks_no, picks_yes, round_ends, rounds_end, then_exceeds, then_runs, turns_end}
-use Rattle.rely_machine.proofs.Tables.{Left, Next, idle_left, left_whole, next_of}
+use Rattle.rely_machine.proofs.Tables.{Left, Next, both, either, idle_left, left_whole, next_of}
 use Rattle.rely_machine.proofs.Walking.{and_then, nothing, push_runs}
-
-both : (a b : Bool) → (a && b) ≡ true → (a ≡ true) × (b ≡ true)
-both true b is = (refl, is)
-both false b is = absurd (false≢true is)
-
-either : (a b : Bool) → (a || b) ≡ true → (a ≡ true) ⊎ (b ≡ true)
-either true b is = inl refl
-either false b is = inr is
 
 module _ (r : Function) (s : Store) (t : Counts) (h : IsRunning r s t) where
   if_idle : (c : Expr) (x y : Block) → (all_idle x ≡ true → Runs r (items x) (λ st. st) (λ st. st) s t s t) → (all_idle y ≡ true → Runs r (items y) (λ st. st) (λ st. st) s t s t)

@@ -1,112 +1,146 @@
-use Rattle.std.proofs.Common.{rules, ◌+◌, ◌-◌, [], ◌∷◌, length, OnErr, OnOk, refl, sym, ap, subst, ◌∙◌, arith}
+use Rattle.std.proofs.Common.{rules, ◌+◌, ◌-◌, ◌≤◌, [], ◌∷◌, length, take, drop, OnErr, OnOk, refl, sym, ap, subst, ◌∙◌, arith}
 use Rattle.std.proofs.lemmas.List.{take_all}
 use Rattle.std.proofs.lemmas.Option.{slice_get_read}
 use Rattle.std.proofs.lemmas.Result.{on_err_weaker, on_ok_weaker}
+use Rattle.rely_kernel.specs.declared.kernel.St.{St}
 use Rattle.rely_kernel.specs.Machine.{Repeat, While, items, stmt_items}
 use Rattle.rely_kernel.specs.Text.{Stmt, block_of, expr_of, stmt_of}
 use Rattle.rely_kernel.specs.Running.{Fine}
 use Rattle.rely_kernel.proofs.TextLemmas.{text-If, text-While, text-Repeat}
+use Rattle.rely_machine.specs.Idle.{first_of, second_of, table_of}
 use Rattle.rely_machine.proofs.Listing.{fine_at}
 use Rattle.rely_machine.proofs.Reading.{zero_in, zero_of}
 use Rattle.rely_machine.proofs.Sizes.{block_size, stmt_size, stmt_smaller}
+use Rattle.rely_machine.proofs.Tables.{place_below, place_read}
 use Rattle.rely_faults.specs.Going.{Exceeds, Runs, here}
+use Rattle.rely_faults.proofs.Idling.{Walks, walk_end, walk_goes, walk_next, walk_start, walk_stops}
 use Rattle.rely_faults.proofs.Looping.{if_goes, if_stops, if_stops_first, leads_start, picks_no, picks_yes, round_ends, round_goes, round_stops, round_stops_first, round_stops_then, rounds_end, stmt_goes, stmt_stops, turn_goes, turn_stops, turn_stops_then, turns_end}
 use Rattle.rely_faults.proofs.Walking.{nothing, on_err}
 use Rattle.rely_faults.proofs.walk.+text.Goals as goal
 
-pub block-loop-s-init : goal.block-loop-s-init
-block-loop-s-init t c = nothing c.args.r.now (λ st. st) (here c.args.held.now c.args.tally.now c.args.words.now) c.requires.running
+pub block-loop-entry-init : goal.block-loop-entry-init
+block-loop-entry-init t c = walk_start c.args.r.now c.args.text.statements.now (here c.args.held.now c.args.tally.now c.args.words.now) c.args.text.live.now c.requires.table.live c.requires.running
+
+pub block-split_at-requires : goal.block-split_at-requires
+block-split_at-requires t c = (walk_next c.args.r.now c.args.text.statements.now (here c.args.held.now c.args.tally.now c.args.words.now) (here c.loop-entry.held c.loop-entry.tally c.loop-entry.words) c.loop-entry.live.now c.in-Some.entry.now c.in-Some.inner.now c.in-Some.ensures.cases.0 c.loop-entry.invariant).first_many
+
+pub block-split_at-requires-in-Some : goal.block-split_at-requires-in-Some
+block-split_at-requires-in-Some t c = subst (λ xs. c.in-Some.entry.now.second ≤ length xs) (sym c.split_at.ensures.back) (walk_next c.args.r.now c.args.text.statements.now (here c.args.held.now c.args.tally.now c.args.words.now) (here c.loop-entry.held c.loop-entry.tally c.loop-entry.words) c.loop-entry.live.now c.in-Some.entry.now c.in-Some.inner.now c.in-Some.ensures.cases.0 c.loop-entry.invariant).second_many
+
+pub block-offset_bounds-text-entry : goal.block-offset_bounds-text-entry
+block-offset_bounds-text-entry t c =
+    let n = walk_next c.args.r.now c.args.text.statements.now (here c.args.held.now c.args.tally.now c.args.words.now) (here c.loop-entry.held c.loop-entry.tally c.loop-entry.words) c.loop-entry.live.now c.in-Some.entry.now c.in-Some.inner.now c.in-Some.ensures.cases.0 c.loop-entry.invariant in
+    let below = place_below c.args.text.statements.now c.in-Some.entry.now.place n.s n.at in
+    search (rules, below)
+
+pub block-bounds-text-entry : goal.block-bounds-text-entry
+block-bounds-text-entry t c =
+    let n = walk_next c.args.r.now c.args.text.statements.now (here c.args.held.now c.args.tally.now c.args.words.now) (here c.loop-entry.held c.loop-entry.tally c.loop-entry.words) c.loop-entry.live.now c.in-Some.entry.now c.in-Some.inner.now c.in-Some.ensures.cases.0 c.loop-entry.invariant in
+    place_below c.args.text.statements.now c.in-Some.entry.now.place n.s n.at
 
 pub block-statement-requires : goal.block-statement-requires
 block-statement-requires t c =
-    let at = (slice_get_read c.args.text.now (length c.args.text.now) c.loop-s.s-index c.s-item.result refl c.loop-s-test.true c.s-item.is) in
-    let smaller = stmt_smaller c.args.text.now c.loop-s.s-index c.s-item.result at in
+    let n = walk_next c.args.r.now c.args.text.statements.now (here c.args.held.now c.args.tally.now c.args.words.now) (here c.loop-entry.held c.loop-entry.tally c.loop-entry.words) c.loop-entry.live.now c.in-Some.entry.now c.in-Some.inner.now c.in-Some.ensures.cases.0 c.loop-entry.invariant in
+    let is = place_read c.args.text.statements.now c.in-Some.entry.now.place n.s c.index-text-entry.result n.at in
+    let smaller = stmt_smaller c.args.text.statements.now c.in-Some.entry.now.place n.s n.at in
+    let same = ap (λ (s : St). stmt_size (stmt_of s.what)) is in
     let d = c.decreases in
-    (omega (arith, d, smaller), (c.loop-s.invariant.running, fine_at (c.args.r.now.kernel.now ∷ []) 0 c.args.r.now.kernel.now c.args.text.now c.loop-s.s-index c.s-item.result at c.requires.fits))
+    (omega (arith, d, smaller, same), (c.loop-entry.invariant.leads.running, (rw is (fine_at (c.args.r.now.kernel.now ∷ []) 0 c.args.r.now.kernel.now c.args.text.statements.now c.in-Some.entry.now.place n.s n.at c.requires.fits), record {
+      first = c.split_at.ensures.front ∙ (n.first ∙ ap (λ (s : St). first_of (stmt_of s.what)) (sym is));
+      second = c.split_at-in-Some.ensures.front ∙ (ap (take c.in-Some.entry.now.second) c.split_at.ensures.back ∙ (n.second ∙ ap (λ (s : St). second_of (stmt_of s.what)) (sym is)));
+    })))
 
 pub block-returns-in_err-statement-clause-exceeds : goal.block-returns-in_err-statement-clause-exceeds
-block-returns-in_err-statement-clause-exceeds t c = on_err c.from_residual.result (stmt_stops c.args.r.now (here c.args.held.now c.args.tally.now c.args.words.now) (here c.loop-s.held c.loop-s.tally c.loop-s.words) c.args.text.now c.loop-s.s-index c.s-item.result
-    (slice_get_read c.args.text.now (length c.args.text.now) c.loop-s.s-index c.s-item.result refl c.loop-s-test.true c.s-item.is) c.loop-s.invariant c.in_err-statement.ensures.exceeds)
+block-returns-in_err-statement-clause-exceeds t c =
+    let n = walk_next c.args.r.now c.args.text.statements.now (here c.args.held.now c.args.tally.now c.args.words.now) (here c.loop-entry.held c.loop-entry.tally c.loop-entry.words) c.loop-entry.live.now c.in-Some.entry.now c.in-Some.inner.now c.in-Some.ensures.cases.0 c.loop-entry.invariant in
+    let read = place_read c.args.text.statements.now c.in-Some.entry.now.place n.s c.index-text-entry.result n.at in
+    on_err c.from_residual.result (walk_stops c.args.r.now c.args.text.statements.now (here c.args.held.now c.args.tally.now c.args.words.now) (here c.loop-entry.held c.loop-entry.tally c.loop-entry.words) c.loop-entry.live.now c.in-Some.entry.now c.in-Some.inner.now c.in-Some.ensures.cases.0 c.loop-entry.invariant
+    (subst (λ (s : St). Exceeds c.args.r.now (stmt_items (stmt_of s.what)) (λ st. st) (here c.loop-entry.held c.loop-entry.tally c.loop-entry.words) c.statement.new.words) read c.in_err-statement.ensures.exceeds))
 
-pub block-loop-s-preserved : goal.block-loop-s-preserved
-block-loop-s-preserved t c = stmt_goes c.args.r.now (here c.args.held.now c.args.tally.now c.args.words.now) (here c.loop-s.held c.loop-s.tally c.loop-s.words) c.args.text.now c.loop-s.s-index c.s-item.result
-    (slice_get_read c.args.text.now (length c.args.text.now) c.loop-s.s-index c.s-item.result refl c.loop-s-test.true c.s-item.is) c.loop-s.invariant c.in_ok-statement.ensures.runs
+pub block-loop-entry-preserved : goal.block-loop-entry-preserved
+block-loop-entry-preserved t c =
+    let n = walk_next c.args.r.now c.args.text.statements.now (here c.args.held.now c.args.tally.now c.args.words.now) (here c.loop-entry.held c.loop-entry.tally c.loop-entry.words) c.loop-entry.live.now c.in-Some.entry.now c.in-Some.inner.now c.in-Some.ensures.cases.0 c.loop-entry.invariant in
+    let read = place_read c.args.text.statements.now c.in-Some.entry.now.place n.s c.index-text-entry.result n.at in
+    subst (λ live. Walks c.args.r.now c.args.text.statements.now live (here c.args.held.now c.args.tally.now c.args.words.now) (here c.statement.new.held c.statement.new.tally c.statement.new.words))
+    (sym (c.split_at-in-Some.ensures.back ∙ ap (drop c.in-Some.entry.now.second) c.split_at.ensures.back))
+    (walk_goes c.args.r.now c.args.text.statements.now (here c.args.held.now c.args.tally.now c.args.words.now) (here c.loop-entry.held c.loop-entry.tally c.loop-entry.words) c.loop-entry.live.now c.in-Some.entry.now c.in-Some.inner.now c.in-Some.ensures.cases.0 c.loop-entry.invariant
+    (subst (λ (s : St). Runs c.args.r.now (stmt_items (stmt_of s.what)) (λ st. st) (λ st. st) (here c.loop-entry.held c.loop-entry.tally c.loop-entry.words) (here c.statement.new.held c.statement.new.tally c.statement.new.words)) read c.in_ok-statement.ensures.runs))
 
 pub block-returns-clause-runs : goal.block-returns-clause-runs
-block-returns-clause-runs t c = subst (λ ts. Runs c.args.r.now (items (block_of ts)) (λ st. st) (λ st. st) (here c.args.held.now c.args.tally.now c.args.words.now) (here c.loop-s.held c.loop-s.tally c.loop-s.words)) (take_all c.loop-s.s-index c.args.text.now c.loop-s-test.false) c.loop-s.invariant
+block-returns-clause-runs t c = walk_end c.args.r.now c.args.text.statements.now (here c.args.held.now c.args.tally.now c.args.words.now) (here c.loop-entry.held c.loop-entry.tally c.loop-entry.words) c.loop-entry.live.now c.in_default.ensures.cases c.loop-entry.invariant
 
 pub choose-returns-in_err-z-clause-exceeds : goal.choose-returns-in_err-z-clause-exceeds
-choose-returns-in_err-z-clause-exceeds t c = on_err c.from_residual.result (if_stops_first c.args.r.now (expr_of c.args.e.now) (block_of c.args.s.now) (block_of c.args.t.now) (here c.args.held.now c.args.tally.now c.args.words.now) c.in_err-z.ensures.exceeds)
+choose-returns-in_err-z-clause-exceeds t c = on_err c.from_residual.result (if_stops_first c.args.r.now (expr_of c.args.e.now) (block_of c.args.s.statements.now) (block_of c.args.t.statements.now) (here c.args.held.now c.args.tally.now c.args.words.now) c.in_err-z.ensures.exceeds)
 
 pub choose-block-requires : goal.choose-block-requires
-choose-block-requires t c = let d = c.decreases in (omega (arith, d), (c.in_ok-z.ensures.runs.running, c.requires.fits.1))
+choose-block-requires t c = let d = c.decreases in (omega (arith, d), (c.in_ok-z.ensures.runs.running, (c.requires.fits.1, c.requires.first)))
 
 pub choose-block-requires-else-z-ne0 : goal.choose-block-requires-else-z-ne0
-choose-block-requires-else-z-ne0 t c = let d = c.decreases in (omega (arith, d), (c.in_ok-z.ensures.runs.running, c.requires.fits.2))
+choose-block-requires-else-z-ne0 t c = let d = c.decreases in (omega (arith, d), (c.in_ok-z.ensures.runs.running, (c.requires.fits.2, c.requires.second)))
 
 pub choose-returns-then-z-ne0-clause-runs : goal.choose-returns-then-z-ne0-clause-runs
-choose-returns-then-z-ne0-clause-runs t c = on_ok_weaker c.block.result (λ h. if_goes c.args.r.now (expr_of c.args.e.now) (block_of c.args.s.now) (block_of c.args.t.now) (here c.args.held.now c.args.tally.now c.args.words.now) (block_of c.args.s.now) c.in_ok-z.z c.in_ok-z.ensures.runs
-    (picks_yes c.args.r.now (block_of c.args.s.now) (block_of c.args.t.now) c.in_ok-z.z (λ e. c.if-z-ne0.true (zero_in c.in_ok-z.z e))) h) c.block.ensures.runs
+choose-returns-then-z-ne0-clause-runs t c = on_ok_weaker c.block.result (λ h. if_goes c.args.r.now (expr_of c.args.e.now) (block_of c.args.s.statements.now) (block_of c.args.t.statements.now) (here c.args.held.now c.args.tally.now c.args.words.now) (block_of c.args.s.statements.now) c.in_ok-z.z c.in_ok-z.ensures.runs
+    (picks_yes c.args.r.now (block_of c.args.s.statements.now) (block_of c.args.t.statements.now) c.in_ok-z.z (λ e. c.if-z-ne0.true (zero_in c.in_ok-z.z e))) h) c.block.ensures.runs
 
 pub choose-returns-then-z-ne0-clause-exceeds : goal.choose-returns-then-z-ne0-clause-exceeds
-choose-returns-then-z-ne0-clause-exceeds t c = on_err_weaker c.block.result (λ h. if_stops c.args.r.now (expr_of c.args.e.now) (block_of c.args.s.now) (block_of c.args.t.now) (here c.args.held.now c.args.tally.now c.args.words.now) (block_of c.args.s.now) c.in_ok-z.z c.in_ok-z.ensures.runs
-    (picks_yes c.args.r.now (block_of c.args.s.now) (block_of c.args.t.now) c.in_ok-z.z (λ e. c.if-z-ne0.true (zero_in c.in_ok-z.z e))) h) c.block.ensures.exceeds
+choose-returns-then-z-ne0-clause-exceeds t c = on_err_weaker c.block.result (λ h. if_stops c.args.r.now (expr_of c.args.e.now) (block_of c.args.s.statements.now) (block_of c.args.t.statements.now) (here c.args.held.now c.args.tally.now c.args.words.now) (block_of c.args.s.statements.now) c.in_ok-z.z c.in_ok-z.ensures.runs
+    (picks_yes c.args.r.now (block_of c.args.s.statements.now) (block_of c.args.t.statements.now) c.in_ok-z.z (λ e. c.if-z-ne0.true (zero_in c.in_ok-z.z e))) h) c.block.ensures.exceeds
 
 pub choose-returns-else-z-ne0-clause-runs : goal.choose-returns-else-z-ne0-clause-runs
-choose-returns-else-z-ne0-clause-runs t c = on_ok_weaker c.block-else-z-ne0.result (λ h. if_goes c.args.r.now (expr_of c.args.e.now) (block_of c.args.s.now) (block_of c.args.t.now) (here c.args.held.now c.args.tally.now c.args.words.now) (block_of c.args.t.now) c.in_ok-z.z c.in_ok-z.ensures.runs
-    (picks_no c.args.r.now (block_of c.args.s.now) (block_of c.args.t.now) c.in_ok-z.z (zero_of c.in_ok-z.z (search rules) c.if-z-ne0.false)) h) c.block-else-z-ne0.ensures.runs
+choose-returns-else-z-ne0-clause-runs t c = on_ok_weaker c.block-else-z-ne0.result (λ h. if_goes c.args.r.now (expr_of c.args.e.now) (block_of c.args.s.statements.now) (block_of c.args.t.statements.now) (here c.args.held.now c.args.tally.now c.args.words.now) (block_of c.args.t.statements.now) c.in_ok-z.z c.in_ok-z.ensures.runs
+    (picks_no c.args.r.now (block_of c.args.s.statements.now) (block_of c.args.t.statements.now) c.in_ok-z.z (zero_of c.in_ok-z.z (search rules) c.if-z-ne0.false)) h) c.block-else-z-ne0.ensures.runs
 
 pub choose-returns-else-z-ne0-clause-exceeds : goal.choose-returns-else-z-ne0-clause-exceeds
-choose-returns-else-z-ne0-clause-exceeds t c = on_err_weaker c.block-else-z-ne0.result (λ h. if_stops c.args.r.now (expr_of c.args.e.now) (block_of c.args.s.now) (block_of c.args.t.now) (here c.args.held.now c.args.tally.now c.args.words.now) (block_of c.args.t.now) c.in_ok-z.z c.in_ok-z.ensures.runs
-    (picks_no c.args.r.now (block_of c.args.s.now) (block_of c.args.t.now) c.in_ok-z.z (zero_of c.in_ok-z.z (search rules) c.if-z-ne0.false)) h) c.block-else-z-ne0.ensures.exceeds
+choose-returns-else-z-ne0-clause-exceeds t c = on_err_weaker c.block-else-z-ne0.result (λ h. if_stops c.args.r.now (expr_of c.args.e.now) (block_of c.args.s.statements.now) (block_of c.args.t.statements.now) (here c.args.held.now c.args.tally.now c.args.words.now) (block_of c.args.t.statements.now) c.in_ok-z.z c.in_ok-z.ensures.runs
+    (picks_no c.args.r.now (block_of c.args.s.statements.now) (block_of c.args.t.statements.now) c.in_ok-z.z (zero_of c.in_ok-z.z (search rules) c.if-z-ne0.false)) h) c.block-else-z-ne0.ensures.exceeds
 
 pub rounds-loop-init : goal.rounds-loop-init
-rounds-loop-init t c = leads_start c.args.r.now (λ n is. While (expr_of c.args.e.now) n (block_of c.args.text.now) ∷ is) c.args.n (c.args.n - 0) (omega arith) (here c.args.held.now c.args.tally.now c.args.words.now) c.requires.running
+rounds-loop-init t c = leads_start c.args.r.now (λ n is. While (expr_of c.args.e.now) n (block_of c.args.text.statements.now) ∷ is) c.args.n (c.args.n - 0) (omega arith) (here c.args.held.now c.args.tally.now c.args.words.now) c.requires.running
 
 pub rounds-value_of-requires-clause-running : goal.rounds-value_of-requires-clause-running
 rounds-value_of-requires-clause-running t c = c.loop.invariant.running
 
 pub rounds-returns-in_err-z-clause-exceeds : goal.rounds-returns-in_err-z-clause-exceeds
-rounds-returns-in_err-z-clause-exceeds t c = on_err c.from_residual.result (round_stops_first c.args.r.now (λ is. While (expr_of c.args.e.now) c.args.n (block_of c.args.text.now) ∷ is) (expr_of c.args.e.now) (block_of c.args.text.now) (here c.args.held.now c.args.tally.now c.args.words.now) (here c.loop.held c.loop.tally c.loop.words) (c.args.n - c.loop.counter) (c.args.n - (c.loop.counter + 1)) (omega (arith, c.loop-test.true)) c.loop.invariant c.in_err-z.ensures.exceeds)
+rounds-returns-in_err-z-clause-exceeds t c = on_err c.from_residual.result (round_stops_first c.args.r.now (λ is. While (expr_of c.args.e.now) c.args.n (block_of c.args.text.statements.now) ∷ is) (expr_of c.args.e.now) (block_of c.args.text.statements.now) (here c.args.held.now c.args.tally.now c.args.words.now) (here c.loop.held c.loop.tally c.loop.words) (c.args.n - c.loop.counter) (c.args.n - (c.loop.counter + 1)) (omega (arith, c.loop-test.true)) c.loop.invariant c.in_err-z.ensures.exceeds)
 
 pub rounds-returns-then-z-eq0-clause-runs : goal.rounds-returns-then-z-eq0-clause-runs
-rounds-returns-then-z-eq0-clause-runs t c = round_ends c.args.r.now (λ is. While (expr_of c.args.e.now) c.args.n (block_of c.args.text.now) ∷ is) (expr_of c.args.e.now) (block_of c.args.text.now) (here c.args.held.now c.args.tally.now c.args.words.now) (here c.loop.held c.loop.tally c.loop.words) (c.args.n - c.loop.counter) (c.args.n - (c.loop.counter + 1)) (omega (arith, c.loop-test.true)) c.in_ok-z.z c.loop.invariant c.in_ok-z.ensures.runs (zero_of c.in_ok-z.z (search rules) c.if-z-eq0.true)
+rounds-returns-then-z-eq0-clause-runs t c = round_ends c.args.r.now (λ is. While (expr_of c.args.e.now) c.args.n (block_of c.args.text.statements.now) ∷ is) (expr_of c.args.e.now) (block_of c.args.text.statements.now) (here c.args.held.now c.args.tally.now c.args.words.now) (here c.loop.held c.loop.tally c.loop.words) (c.args.n - c.loop.counter) (c.args.n - (c.loop.counter + 1)) (omega (arith, c.loop-test.true)) c.in_ok-z.z c.loop.invariant c.in_ok-z.ensures.runs (zero_of c.in_ok-z.z (search rules) c.if-z-eq0.true)
 
 pub rounds-returns-in_err-walk-clause-exceeds : goal.rounds-returns-in_err-walk-clause-exceeds
-rounds-returns-in_err-walk-clause-exceeds t c = on_err c.from_residual-in_err-walk.result (round_stops c.args.r.now (λ is. While (expr_of c.args.e.now) c.args.n (block_of c.args.text.now) ∷ is) (expr_of c.args.e.now) (block_of c.args.text.now) (here c.args.held.now c.args.tally.now c.args.words.now) (here c.loop.held c.loop.tally c.loop.words)
+rounds-returns-in_err-walk-clause-exceeds t c = on_err c.from_residual-in_err-walk.result (round_stops c.args.r.now (λ is. While (expr_of c.args.e.now) c.args.n (block_of c.args.text.statements.now) ∷ is) (expr_of c.args.e.now) (block_of c.args.text.statements.now) (here c.args.held.now c.args.tally.now c.args.words.now) (here c.loop.held c.loop.tally c.loop.words)
     (here c.loop.held c.value_of.new.tally c.value_of.new.words) (c.args.n - c.loop.counter) (c.args.n - (c.loop.counter + 1)) (omega (arith, c.loop-test.true)) c.in_ok-z.z c.loop.invariant c.in_ok-z.ensures.runs (λ e. c.if-z-eq0.false (zero_in c.in_ok-z.z e)) c.in_err-walk.ensures.full)
 
 pub rounds-block-requires : goal.rounds-block-requires
-rounds-block-requires t c = let d = c.decreases in (omega (arith, d), (c.in_ok-z.ensures.runs.running, c.requires.fits.1))
+rounds-block-requires t c = let d = c.decreases in (omega (arith, d), (c.in_ok-z.ensures.runs.running, (c.requires.fits.1, c.requires.table)))
 
 pub rounds-returns-in_err-block-clause-exceeds : goal.rounds-returns-in_err-block-clause-exceeds
-rounds-returns-in_err-block-clause-exceeds t c = on_err c.from_residual-in_err-block.result (round_stops_then c.args.r.now (λ is. While (expr_of c.args.e.now) c.args.n (block_of c.args.text.now) ∷ is) (expr_of c.args.e.now) (block_of c.args.text.now) (here c.args.held.now c.args.tally.now c.args.words.now) (here c.loop.held c.loop.tally c.loop.words)
+rounds-returns-in_err-block-clause-exceeds t c = on_err c.from_residual-in_err-block.result (round_stops_then c.args.r.now (λ is. While (expr_of c.args.e.now) c.args.n (block_of c.args.text.statements.now) ∷ is) (expr_of c.args.e.now) (block_of c.args.text.statements.now) (here c.args.held.now c.args.tally.now c.args.words.now) (here c.loop.held c.loop.tally c.loop.words)
     (here c.loop.held c.value_of.new.tally c.value_of.new.words) (c.args.n - c.loop.counter) (c.args.n - (c.loop.counter + 1)) (omega (arith, c.loop-test.true)) c.in_ok-z.z c.loop.invariant c.in_ok-z.ensures.runs (λ e. c.if-z-eq0.false (zero_in c.in_ok-z.z e)) c.in_ok-walk.ensures.ok c.in_err-block.ensures.exceeds)
 
 pub rounds-loop-preserved : goal.rounds-loop-preserved
-rounds-loop-preserved t c = round_goes c.args.r.now (λ is. While (expr_of c.args.e.now) c.args.n (block_of c.args.text.now) ∷ is) (expr_of c.args.e.now) (block_of c.args.text.now) (here c.args.held.now c.args.tally.now c.args.words.now) (here c.loop.held c.loop.tally c.loop.words)
+rounds-loop-preserved t c = round_goes c.args.r.now (λ is. While (expr_of c.args.e.now) c.args.n (block_of c.args.text.statements.now) ∷ is) (expr_of c.args.e.now) (block_of c.args.text.statements.now) (here c.args.held.now c.args.tally.now c.args.words.now) (here c.loop.held c.loop.tally c.loop.words)
     (here c.loop.held c.value_of.new.tally c.value_of.new.words) (c.args.n - c.loop.counter) (c.args.n - (c.loop.counter + 1)) (omega (arith, c.loop-test.true)) c.in_ok-z.z c.loop.invariant c.in_ok-z.ensures.runs (λ e. c.if-z-eq0.false (zero_in c.in_ok-z.z e)) c.in_ok-walk.ensures.ok c.in_ok-block.ensures.runs
 
 pub rounds-returns-clause-runs : goal.rounds-returns-clause-runs
-rounds-returns-clause-runs t c = rounds_end c.args.r.now (λ is. While (expr_of c.args.e.now) c.args.n (block_of c.args.text.now) ∷ is) (expr_of c.args.e.now) (block_of c.args.text.now) (here c.args.held.now c.args.tally.now c.args.words.now) (here c.loop.held c.loop.tally c.loop.words) (c.args.n - c.loop.counter) (omega (arith, c.loop-test.false)) c.loop.invariant
+rounds-returns-clause-runs t c = rounds_end c.args.r.now (λ is. While (expr_of c.args.e.now) c.args.n (block_of c.args.text.statements.now) ∷ is) (expr_of c.args.e.now) (block_of c.args.text.statements.now) (here c.args.held.now c.args.tally.now c.args.words.now) (here c.loop.held c.loop.tally c.loop.words) (c.args.n - c.loop.counter) (omega (arith, c.loop-test.false)) c.loop.invariant
 
 pub turns-loop-init : goal.turns-loop-init
-turns-loop-init t c = leads_start c.args.r.now (λ n is. Repeat n (block_of c.args.text.now) ∷ is) c.args.n (c.args.n - 0) (omega arith) (here c.args.held.now c.args.tally.now c.args.words.now) c.requires.running
+turns-loop-init t c = leads_start c.args.r.now (λ n is. Repeat n (block_of c.args.text.statements.now) ∷ is) c.args.n (c.args.n - 0) (omega arith) (here c.args.held.now c.args.tally.now c.args.words.now) c.requires.running
 
 pub turns-returns-in_err-walk-clause-exceeds : goal.turns-returns-in_err-walk-clause-exceeds
-turns-returns-in_err-walk-clause-exceeds t c = on_err c.from_residual.result (turn_stops c.args.r.now (λ is. Repeat c.args.n (block_of c.args.text.now) ∷ is) (block_of c.args.text.now) (here c.args.held.now c.args.tally.now c.args.words.now) (here c.loop.held c.loop.tally c.loop.words) (c.args.n - c.loop.counter) (c.args.n - (c.loop.counter + 1)) (omega (arith, c.loop-test.true)) c.loop.invariant c.in_err-walk.ensures.full)
+turns-returns-in_err-walk-clause-exceeds t c = on_err c.from_residual.result (turn_stops c.args.r.now (λ is. Repeat c.args.n (block_of c.args.text.statements.now) ∷ is) (block_of c.args.text.statements.now) (here c.args.held.now c.args.tally.now c.args.words.now) (here c.loop.held c.loop.tally c.loop.words) (c.args.n - c.loop.counter) (c.args.n - (c.loop.counter + 1)) (omega (arith, c.loop-test.true)) c.loop.invariant c.in_err-walk.ensures.full)
 
 pub turns-block-requires : goal.turns-block-requires
-turns-block-requires t c = let d = c.decreases in (omega (arith, d), (c.loop.invariant.running, c.requires.fits))
+turns-block-requires t c = let d = c.decreases in (omega (arith, d), (c.loop.invariant.running, (c.requires.fits, c.requires.table)))
 
 pub turns-returns-in_err-block-clause-exceeds : goal.turns-returns-in_err-block-clause-exceeds
-turns-returns-in_err-block-clause-exceeds t c = on_err c.from_residual-in_err-block.result (turn_stops_then c.args.r.now (λ is. Repeat c.args.n (block_of c.args.text.now) ∷ is) (block_of c.args.text.now) (here c.args.held.now c.args.tally.now c.args.words.now) (here c.loop.held c.loop.tally c.loop.words) (c.args.n - c.loop.counter) (c.args.n - (c.loop.counter + 1)) (omega (arith, c.loop-test.true)) c.loop.invariant c.in_ok-walk.ensures.ok c.in_err-block.ensures.exceeds)
+turns-returns-in_err-block-clause-exceeds t c = on_err c.from_residual-in_err-block.result (turn_stops_then c.args.r.now (λ is. Repeat c.args.n (block_of c.args.text.statements.now) ∷ is) (block_of c.args.text.statements.now) (here c.args.held.now c.args.tally.now c.args.words.now) (here c.loop.held c.loop.tally c.loop.words) (c.args.n - c.loop.counter) (c.args.n - (c.loop.counter + 1)) (omega (arith, c.loop-test.true)) c.loop.invariant c.in_ok-walk.ensures.ok c.in_err-block.ensures.exceeds)
 
 pub turns-loop-preserved : goal.turns-loop-preserved
-turns-loop-preserved t c = turn_goes c.args.r.now (λ is. Repeat c.args.n (block_of c.args.text.now) ∷ is) (block_of c.args.text.now) (here c.args.held.now c.args.tally.now c.args.words.now) (here c.loop.held c.loop.tally c.loop.words) (c.args.n - c.loop.counter) (c.args.n - (c.loop.counter + 1)) (omega (arith, c.loop-test.true)) c.loop.invariant c.in_ok-walk.ensures.ok c.in_ok-block.ensures.runs
+turns-loop-preserved t c = turn_goes c.args.r.now (λ is. Repeat c.args.n (block_of c.args.text.statements.now) ∷ is) (block_of c.args.text.statements.now) (here c.args.held.now c.args.tally.now c.args.words.now) (here c.loop.held c.loop.tally c.loop.words) (c.args.n - c.loop.counter) (c.args.n - (c.loop.counter + 1)) (omega (arith, c.loop-test.true)) c.loop.invariant c.in_ok-walk.ensures.ok c.in_ok-block.ensures.runs
 
 pub turns-returns-clause-runs : goal.turns-returns-clause-runs
-turns-returns-clause-runs t c = turns_end c.args.r.now (λ is. Repeat c.args.n (block_of c.args.text.now) ∷ is) (block_of c.args.text.now) (here c.args.held.now c.args.tally.now c.args.words.now) (here c.loop.held c.loop.tally c.loop.words) (c.args.n - c.loop.counter) (omega (arith, c.loop-test.false)) c.loop.invariant
+turns-returns-clause-runs t c = turns_end c.args.r.now (λ is. Repeat c.args.n (block_of c.args.text.statements.now) ∷ is) (block_of c.args.text.statements.now) (here c.args.held.now c.args.tally.now c.args.words.now) (here c.loop.held c.loop.tally c.loop.words) (c.args.n - c.loop.counter) (omega (arith, c.loop-test.false)) c.loop.invariant
 
 pub statement-choose-requires : goal.statement-choose-requires
 statement-choose-requires t c =
@@ -114,21 +148,21 @@ statement-choose-requires t c =
     let a = ap (λ ss. block_size (block_of ss)) c.as_slice.ensures in
     let b = ap (λ ss. block_size (block_of ss)) c.as_slice-in-If.ensures in
     let d = c.decreases in
-    (omega (arith, d, e, a, b), (c.requires.running, rw (c.as_slice.ensures, c.as_slice-in-If.ensures) (subst (Fine (c.args.r.now.kernel.now ∷ []) 0 c.args.r.now.kernel.now) (ap stmt_of c.in-If.is ∙ text-If c.in-If.e c.in-If.s c.in-If.t) c.requires.fits)))
+    (omega (arith, d, e, a, b), (c.requires.running, (rw (c.as_slice.ensures, c.as_slice-in-If.ensures) (subst (Fine (c.args.r.now.kernel.now ∷ []) 0 c.args.r.now.kernel.now) (ap stmt_of c.in-If.is ∙ text-If c.in-If.e c.in-If.s c.in-If.t) c.requires.fits), (record { live = c.requires.tables.first ∙ (ap first_of (ap stmt_of c.in-If.is ∙ text-If c.in-If.e c.in-If.s c.in-If.t) ∙ sym (ap (λ ss. table_of (block_of ss)) c.as_slice.ensures)) }, record { live = c.requires.tables.second ∙ (ap second_of (ap stmt_of c.in-If.is ∙ text-If c.in-If.e c.in-If.s c.in-If.t) ∙ sym (ap (λ ss. table_of (block_of ss)) c.as_slice-in-If.ensures)) }))))
 
 pub statement-rounds-requires : goal.statement-rounds-requires
 statement-rounds-requires t c =
     let e = ap stmt_size (ap stmt_of c.in-While.is ∙ text-While c.in-While.e c.in-While.n c.in-While.s) in
     let a = ap (λ ss. block_size (block_of ss)) c.as_slice-in-While.ensures in
     let d = c.decreases in
-    (omega (arith, d, e, a), (c.requires.running, rw c.as_slice-in-While.ensures (subst (Fine (c.args.r.now.kernel.now ∷ []) 0 c.args.r.now.kernel.now) (ap stmt_of c.in-While.is ∙ text-While c.in-While.e c.in-While.n c.in-While.s) c.requires.fits)))
+    (omega (arith, d, e, a), (c.requires.running, (rw c.as_slice-in-While.ensures (subst (Fine (c.args.r.now.kernel.now ∷ []) 0 c.args.r.now.kernel.now) (ap stmt_of c.in-While.is ∙ text-While c.in-While.e c.in-While.n c.in-While.s) c.requires.fits), record { live = c.requires.tables.first ∙ (ap first_of (ap stmt_of c.in-While.is ∙ text-While c.in-While.e c.in-While.n c.in-While.s) ∙ sym (ap (λ ss. table_of (block_of ss)) c.as_slice-in-While.ensures)) })))
 
 pub statement-turns-requires : goal.statement-turns-requires
 statement-turns-requires t c =
     let e = ap stmt_size (ap stmt_of c.in-Repeat.is ∙ text-Repeat c.in-Repeat.n c.in-Repeat.s) in
     let a = ap (λ ss. block_size (block_of ss)) c.as_slice-in-Repeat.ensures in
     let d = c.decreases in
-    (omega (arith, d, e, a), (c.requires.running, rw c.as_slice-in-Repeat.ensures (subst (Fine (c.args.r.now.kernel.now ∷ []) 0 c.args.r.now.kernel.now) (ap stmt_of c.in-Repeat.is ∙ text-Repeat c.in-Repeat.n c.in-Repeat.s) c.requires.fits)))
+    (omega (arith, d, e, a), (c.requires.running, (rw c.as_slice-in-Repeat.ensures (subst (Fine (c.args.r.now.kernel.now ∷ []) 0 c.args.r.now.kernel.now) (ap stmt_of c.in-Repeat.is ∙ text-Repeat c.in-Repeat.n c.in-Repeat.s) c.requires.fits), record { live = c.requires.tables.first ∙ (ap first_of (ap stmt_of c.in-Repeat.is ∙ text-Repeat c.in-Repeat.n c.in-Repeat.s) ∙ sym (ap (λ ss. table_of (block_of ss)) c.as_slice-in-Repeat.ensures)) })))
 
 pub statement-returns-in-If-clause-runs : goal.statement-returns-in-If-clause-runs
 statement-returns-in-If-clause-runs t c = subst (λ x. OnOk c.choose.result (Runs c.args.r.now (stmt_items x) (λ st. st) (λ st. st) (here c.args.held.now c.args.tally.now c.args.words.now) (here c.choose.new.held c.choose.new.tally c.choose.new.words)))
