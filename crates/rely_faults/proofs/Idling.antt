@@ -1,5 +1,5 @@
 -- Idle statements are passed over: the trial that stands before them stands behind them.
-use Rattle.std.proofs.Common.{◌≡◌, ℕ, zero, suc, ◌==◌, pos, negsuc, Bool, true, false, List, ◌∷◌, take, drop, length, inl, inr, refl, sym, ap, subst, ◌∙◌}
+use Rattle.std.proofs.Common.{◌≡◌, ℕ, zero, suc, ◌==◌, pos, negsuc, true, false, List, ◌∷◌, take, drop, length, inl, inr, refl, sym, ap, subst, ◌∙◌}
 use Rattle.std.specs.Prelude.{◌⊎◌}
 use Rattle.std.proofs.lemmas.Bool.{eqb-true, false≢true}
 use Rattle.rand_pcg.specs.Lcg.{Lcg}

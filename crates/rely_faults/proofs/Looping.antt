@@ -1,16 +1,13 @@
--- What choices, loops and blocks take.
-use Rattle.std.proofs.Common.{◌≡◌, ◌≢◌, ℕ, zero, suc, ◌+◌, ℤ, pos, negsuc, List, ◌∷◌, take, drop, Some, refl, sym, subst, ◌∙◌, arith}
-use Rattle.std.specs.Prelude.{slice_get}
+-- What choices and loops take.
+use Rattle.std.proofs.Common.{◌≡◌, ◌≢◌, ℕ, zero, suc, ℤ, pos, negsuc, List, ◌∷◌, refl, subst, ◌∙◌, arith}
 use Rattle.rand_pcg.specs.Lcg.{Lcg}
-use Rattle.rely_kernel.specs.declared.kernel.St.{St}
 use Rattle.rely_kernel.specs.Machine.{Item, Choose, While, Repeat, Enter, items, expr_items, stmt_items}
-use Rattle.rely_kernel.specs.Text.{Expr, Stmt, Block, done, ◌then◌, append, block_of, stmt_of}
+use Rattle.rely_kernel.specs.Text.{Expr, Stmt, Block, done, ◌then◌, append}
 use Rattle.rely_kernel.proofs.Skip.{items-append}
-use Rattle.rely_machine.proofs.Listing.{stmts_at, stmts_more}
 use Rattle.rely_faults.specs.declared.running.Running.{Running}
 use Rattle.rely_faults.specs.Going.{Counts, Ends, Exceeds, IsFull, IsRunning, Point, Runs, Stands, here, standing, with_step}
 use Rattle.rely_faults.specs.Trial.{Trying}
-use Rattle.rely_faults.proofs.Walking.{and_then, enter_exceeds, enter_runs, exceeds_first, exceeds_then, free}
+use Rattle.rely_faults.proofs.Walking.{enter_exceeds, enter_runs, exceeds_first, free}
 
 -- the trial that stands before some items stands before others
 pub record Leads (r : Running) (a b : List Item → List Item) (u v : Point) : Type 0 where
@@ -172,26 +169,3 @@ module _ (r : Running) where
 
     pub round_stops_first : {g : Lcg} (n m : ℕ) → n ≡ suc m → Leads r a (λ more. While e n b ∷ more) u v → Exceeds r (expr_items e) (λ st. st) v g → Exceeds r a (λ st. st) u g
     round_stops_first n m is h test = then_exceeds (λ more. Choose (again m) done ∷ more) (round_by n m is h) test
-
-  -- ---- statements one after another
-
-  -- the same items, written otherwise
-  same_items : {a b : List Item → List Item} {f h : List ℤ → List ℤ} {u v : Point} → ((more : List Item) → a more ≡ b more) → Runs r a f h u v → Runs r b f h u v
-  same_items {a} {b} {f} {h} {u} {v} e y = record {
-    running = y.running;
-    limit = y.limit;
-    goes = λ x more st stands. y.goes x more st (subst (λ is. Stands r x (standing is (f st) u.store) u) (sym (e more)) stands);
-  }
-
-  same_exceeds : {a b : List Item → List Item} {f : List ℤ → List ℤ} {u : Point} {g : Lcg} → ((more : List Item) → a more ≡ b more) → Exceeds r a f u g → Exceeds r b f u g
-  same_exceeds {a} {b} {f} {u} e y = record { ends = λ x more st stands. y.ends x more st (subst (λ is. Stands r x (standing is (f st) u.store) u) (sym (e more)) stands) }
-
-  next_is : (i : ℕ) → suc i ≡ i + 1
-  next_is i = omega arith
-
-  module _ (u v : Point) (ss : List St) (i : ℕ) (s : St) (is : slice_get ss i ≡ Some s) (h : Runs r (items (block_of (take i ss))) (λ st. st) (λ st. st) u v) where
-    pub stmt_goes : {w : Point} → Runs r (stmt_items (stmt_of s.what)) (λ st. st) (λ st. st) v w → Runs r (items (block_of (take (i + 1) ss))) (λ st. st) (λ st. st) u w
-    stmt_goes {w} y = subst (λ n. Runs r (items (block_of (take n ss))) (λ st. st) (λ st. st) u w) (next_is i) (same_items (stmts_more ss i s is) (and_then r h y))
-
-    pub stmt_stops : {g : Lcg} → Exceeds r (stmt_items (stmt_of s.what)) (λ st. st) v g → Exceeds r (items (block_of ss)) (λ st. st) u g
-    stmt_stops y = same_exceeds (stmts_at ss i s is) (exceeds_then r h (exceeds_first r (items (block_of (drop (suc i) ss))) y))

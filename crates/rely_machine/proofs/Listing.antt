@@ -86,11 +86,6 @@ exprs_long (e ∷ es) = ap suc (exprs_long es)
 
 -- ---- statements
 
-pub stmts_more : (ss : List St) (i : ℕ) (s : St) → slice_get ss i ≡ Some s → (more : List Item) → items (block_of (take i ss)) (stmt_items (stmt_of s.what) more) ≡ items (block_of (take (suc i) ss)) more
-stmts_more [] i s is more = absurd (cc)
-stmts_more (x ∷ ss) zero s is more = ap (λ y. stmt_items (stmt_of y) more) (ap (λ (u : St). u.what) (sym (some_is is)))
-stmts_more (x ∷ ss) (suc i) s is more = ap (stmt_items (stmt_of x.what)) (stmts_more ss i s is more)
-
 pub stmts_at : (ss : List St) (i : ℕ) (s : St) → slice_get ss i ≡ Some s → (more : List Item)
     → items (block_of (take i ss)) (stmt_items (stmt_of s.what) (items (block_of (drop (suc i) ss)) more)) ≡ items (block_of ss) more
 stmts_at [] i s is more = absurd (cc)
@@ -101,11 +96,3 @@ pub fine_at : (fs : List Kernel) (f : ℕ) (k : Kernel) (ss : List St) (i : ℕ)
 fine_at fs f k [] i s is h = absurd (cc)
 fine_at fs f k (x ∷ ss) zero s is h = subst (λ (y : St). Fine fs f k (stmt_of y.what)) (some_is is) h.0
 fine_at fs f k (x ∷ ss) (suc i) s is h = fine_at fs f k ss i s is h.1
-
-module _ (r : Function) (s0 s : Store) (t0 t : Counts) (ss : List St) (i : ℕ) (x : St) (is : slice_get ss i ≡ Some x)
-    (h : Runs r (items (block_of (take i ss))) (λ st. st) (λ st. st) s0 t0 s t) where
-  pub stmt_goes : {s' : Store} {u : Counts} → Runs r (stmt_items (stmt_of x.what)) (λ st. st) (λ st. st) s t s' u → Runs r (items (block_of (take (i + 1) ss))) (λ st. st) (λ st. st) s0 t0 s' u
-  stmt_goes {s'} {u} y = subst (λ n. Runs r (items (block_of (take n ss))) (λ st. st) (λ st. st) s0 t0 s' u) (next_is i) (same_items r (stmts_more ss i x is) (and_then r h y))
-
-  pub stmt_stops : Exceeds r (stmt_items (stmt_of x.what)) (λ st. st) s t → Exceeds r (items (block_of ss)) (λ st. st) s0 t0
-  stmt_stops y = same_exceeds r (stmts_at ss i x is) (exceeds_then r h (exceeds_first r (items (block_of (drop (suc i) ss))) y))

@@ -1,9 +1,7 @@
-use Rattle.std.proofs.Common.{rules, ◌+◌, ◌-◌, ◌≤◌, [], ◌∷◌, length, take, drop, OnErr, OnOk, refl, sym, ap, subst, ◌∙◌, arith}
-use Rattle.std.proofs.lemmas.List.{take_all}
-use Rattle.std.proofs.lemmas.Option.{slice_get_read}
+use Rattle.std.proofs.Common.{rules, ◌+◌, ◌-◌, ◌≤◌, [], ◌∷◌, length, take, drop, OnErr, OnOk, sym, ap, subst, ◌∙◌, arith}
 use Rattle.std.proofs.lemmas.Result.{on_err_weaker, on_ok_weaker}
 use Rattle.rely_kernel.specs.declared.kernel.St.{St}
-use Rattle.rely_kernel.specs.Machine.{Repeat, While, items, stmt_items}
+use Rattle.rely_kernel.specs.Machine.{Repeat, While, stmt_items}
 use Rattle.rely_kernel.specs.Text.{Stmt, block_of, expr_of, stmt_of}
 use Rattle.rely_kernel.specs.Running.{Fine}
 use Rattle.rely_kernel.proofs.TextLemmas.{text-If, text-While, text-Repeat}
@@ -14,8 +12,8 @@ use Rattle.rely_machine.proofs.Sizes.{block_size, stmt_size, stmt_smaller}
 use Rattle.rely_machine.proofs.Tables.{place_below, place_read}
 use Rattle.rely_faults.specs.Going.{Exceeds, Runs, here}
 use Rattle.rely_faults.proofs.Idling.{Walks, walk_end, walk_goes, walk_next, walk_start, walk_stops}
-use Rattle.rely_faults.proofs.Looping.{if_goes, if_stops, if_stops_first, leads_start, picks_no, picks_yes, round_ends, round_goes, round_stops, round_stops_first, round_stops_then, rounds_end, stmt_goes, stmt_stops, turn_goes, turn_stops, turn_stops_then, turns_end}
-use Rattle.rely_faults.proofs.Walking.{nothing, on_err}
+use Rattle.rely_faults.proofs.Looping.{if_goes, if_stops, if_stops_first, leads_start, picks_no, picks_yes, round_ends, round_goes, round_stops, round_stops_first, round_stops_then, rounds_end, turn_goes, turn_stops, turn_stops_then, turns_end}
+use Rattle.rely_faults.proofs.Walking.{on_err}
 use Rattle.rely_faults.proofs.walk.+text.Goals as goal
 
 pub block-loop-entry-init : goal.block-loop-entry-init
@@ -44,11 +42,19 @@ block-statement-requires t c =
     let is = place_read c.args.text.statements.now c.in-Some.entry.now.place n.s c.index-text-entry.result n.at in
     let smaller = stmt_smaller c.args.text.statements.now c.in-Some.entry.now.place n.s n.at in
     let same = ap (λ (s : St). stmt_size (stmt_of s.what)) is in
-    let d = c.decreases in
-    (omega (arith, d, smaller, same), (c.loop-entry.invariant.leads.running, (rw is (fine_at (c.args.r.now.kernel.now ∷ []) 0 c.args.r.now.kernel.now c.args.text.statements.now c.in-Some.entry.now.place n.s n.at c.requires.fits), record {
-      first = c.split_at.ensures.front ∙ (n.first ∙ ap (λ (s : St). first_of (stmt_of s.what)) (sym is));
-      second = c.split_at-in-Some.ensures.front ∙ (ap (take c.in-Some.entry.now.second) c.split_at.ensures.back ∙ (n.second ∙ ap (λ (s : St). second_of (stmt_of s.what)) (sym is)));
-    })))
+    let d = c.decreases in (
+      omega (arith, d, smaller, same),
+      (
+        c.loop-entry.invariant.leads.running,
+        (
+          rw is (fine_at (c.args.r.now.kernel.now ∷ []) 0 c.args.r.now.kernel.now c.args.text.statements.now c.in-Some.entry.now.place n.s n.at c.requires.fits),
+          record {
+            first = c.split_at.ensures.front ∙ (n.first ∙ ap (λ (s : St). first_of (stmt_of s.what)) (sym is));
+            second = c.split_at-in-Some.ensures.front ∙ (ap (take c.in-Some.entry.now.second) c.split_at.ensures.back ∙ (n.second ∙ ap (λ (s : St). second_of (stmt_of s.what)) (sym is)));
+          },
+        ),
+      ),
+    )
 
 pub block-returns-in_err-statement-clause-exceeds : goal.block-returns-in_err-statement-clause-exceeds
 block-returns-in_err-statement-clause-exceeds t c =
