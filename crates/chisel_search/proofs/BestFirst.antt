@@ -1,5 +1,5 @@
 -- The search that takes the first part of the least value: what a step keeps.
-use Rattle.std.proofs.Common.{◌≡◌, ◌≢◌, ℕ, zero, suc, ◌<◌, List, [], ◌∷◌, length, refl, sym, ap, subst, ◌∙◌, arith, Option, Some, None}
+use Rattle.std.proofs.Common.{◌≡◌, ◌≢◌, ℕ, zero, suc, ◌<◌, List, [], ◌∷◌, length, refl, sym, ap, subst, ◌∙◌, arith, Some, None}
 use Rattle.std.specs.Prelude.{slice_index, slice_index_or}
 use Rattle.std.proofs.lemmas.List.{get_or-map, length-map}
 use Rattle.chisel_table.specs.declared.partial.Partial.{Partial}
@@ -7,14 +7,13 @@ use Rattle.chisel_table.specs.Partials.{nothing_fixed}
 use Rattle.chisel_bound.specs.declared.differences.Differences.{Differences}
 use Rattle.chisel_search.specs.declared.machine.Machine.{Machine}
 use Rattle.chisel_search.specs.declared.part.Part.{Part}
-use Rattle.chisel_search.specs.declared.tournament.Entrant.{Entrant}
 use Rattle.chisel_search.specs.declared.tournament.Tournament.{Tournament}
 use Rattle.chisel_search.specs.BestFirst.{IsBestFirst}
 use Rattle.chisel_search.specs.Logs.{numbers_from}
 use Rattle.chisel_search.specs.Machine.{IsBegun, IsKnown, IsMachine, IsVisited, pool_of, table_of}
 use Rattle.chisel_search.specs.Rules.{IsFirstLeast}
 use Rattle.chisel_search.specs.Search.{part_of, replaced}
-use Rattle.chisel_search.specs.Tournament.{part_at, winner_at, number_of, winning_number, numbers_in, parts_in, IsOpen, IsTournament, Replaces, StandsAt}
+use Rattle.chisel_search.specs.Tournament.{part_at, entrant, entrant_of, winning_number, numbers_in, parts_in, IsOpen, IsTournament, Replaces, StandsAt}
 use Rattle.chisel_search.proofs.Climbing.{winner_of_all}
 use Rattle.chisel_search.proofs.Finding.{begun, known_here, stepped}
 use Rattle.chisel_search.proofs.Grown.{each_open}
@@ -49,11 +48,9 @@ module _ (d : Differences) (Answers : Partial → ℕ → Type 0) (m : Machine) 
 
   -- no part is open where none wins
   pub none_open : winning_number t ≡ None → length (parts_in t) ≡ 0
-  none_open e = length-map (numbers_in t) (part_at t.parts.items) ∙ go (winner_at t.winners.items 0) refl e
-    where
-      go : (w : Option Entrant) → winner_at t.winners.items 0 ≡ w → number_of w ≡ None → length (numbers_in t) ≡ 0
-      go None q e = no_winner t.parts.items (numbers_in t) (sym (winner_of_all t h.tournament) ∙ q)
-      go (Some w) q e = absurd (let u = e in cc)
+  none_open e =
+      length-map (numbers_in t) (part_at t.parts.items)
+      ∙ no_winner t.parts.items (numbers_in t) (sym (winner_of_all t h.tournament) ∙ ap (entrant_of t.parts.items) e)
 
   -- the place of the part that wins
   pub record IsTaken (n k : ℕ) : Type 0 where
@@ -62,27 +59,24 @@ module _ (d : Differences) (Answers : Partial → ℕ → Type 0) (m : Machine) 
     pub open_part : IsOpen t.knots.items n
 
   pub taken : (n : ℕ) → winning_number t ≡ Some n → (k : ℕ) × IsTaken n k
-  taken n e = go (winner_at t.winners.items 0) refl e
-    where
-      go : (w : Option Entrant) → winner_at t.winners.items 0 ≡ w → number_of w ≡ Some n → (k : ℕ) × IsTaken n k
-      go None q e = absurd (let u = e in cc)
-      go (Some w) q e =
-          let i = first_of t.parts.items (numbers_in t) w (sym (winner_of_all t h.tournament) ∙ q) in
-          let k = i.0 in
-          let f : IsFirst t.parts.items (numbers_in t) w k = i.1 in
-          let here : slice_index (numbers_in t) k ≡ n = ap (λ x. x.number) f.entrant_is ∙ (let u = e in cc) in (
-            k,
-            record {
-              stands = record {
-                inside = f.inside;
-                here = here;
-                alone = λ j l q. apart_alone (numbers_in t) j k l f.inside apart (q ∙ sym here);
-              };
-              picked = is_first_least t.parts.items (numbers_in t) w k f;
-              open_part = subst (IsOpen t.knots.items) here
-                  (each_at (IsOpen t.knots.items) (numbers_in t) k 0 f.inside (each_open t.knots.items h.tournament.shaped.tree (length t.knots.items) 0 h.tournament.shaped.tree.some));
-            },
-          )
+  taken n e =
+      let w = entrant t.parts.items n in
+      let i = first_of t.parts.items (numbers_in t) w (sym (winner_of_all t h.tournament) ∙ ap (entrant_of t.parts.items) e) in
+      let k = i.0 in
+      let f : IsFirst t.parts.items (numbers_in t) w k = i.1 in
+      let here : slice_index (numbers_in t) k ≡ n = ap (λ x. x.number) f.entrant_is in (
+        k,
+        record {
+          stands = record {
+            inside = f.inside;
+            here = here;
+            alone = λ j l q. apart_alone (numbers_in t) j k l f.inside apart (q ∙ sym here);
+          };
+          picked = is_first_least t.parts.items (numbers_in t) w k f;
+          open_part = subst (IsOpen t.knots.items) here
+              (each_at (IsOpen t.knots.items) (numbers_in t) k 0 f.inside (each_open t.knots.items h.tournament.shaped.tree (length t.knots.items) 0 h.tournament.shaped.tree.some));
+        },
+      )
 
   module _ (n : ℕ) (e : winning_number t ≡ Some n) where
     place : ℕ

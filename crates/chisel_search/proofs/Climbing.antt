@@ -3,55 +3,83 @@ use Rattle.std.proofs.Common.{◌≡◌, ◌≢◌, ℕ, zero, suc, ◌+◌, ◌
 use Rattle.std.specs.Prelude.{slice_set, nat_lt}
 use Rattle.std.proofs.lemmas.Bool.{eqb-true, ltb-true, ltb-false}
 use Rattle.std.proofs.Math.Seq.{take-length}
-use Rattle.std.proofs.lemmas.List.{append-nil, get_or_append_left, get_or-append-add, length-append, length-take-le, take_more}
+use Rattle.std.proofs.lemmas.List.{append-nil, get_or_append_left, get_or-append-add, get_or-set_same, get_or-set_other, length-append, length-take-le, take_more}
 use Rattle.chisel_table.specs.Sums.{list_to}
 use Rattle.chisel_table.proofs.Sums.{by_test, differ}
 use Rattle.chisel_bound.proofs.Lists.{length_listed, listed_agree, listed_at, listed_more}
 use Rattle.chisel_search.specs.declared.part.Part.{Part}
-use Rattle.chisel_search.specs.declared.tournament.Entrant.{Entrant}
 use Rattle.chisel_search.specs.declared.tournament.Family.{Family}
 use Rattle.chisel_search.specs.declared.tournament.Knot.{Knot}
 use Rattle.chisel_search.specs.declared.tournament.Tournament.{Tournament}
 use Rattle.chisel_search.specs.Logs.{numbers_from}
 use Rattle.chisel_search.specs.Search.{replaced}
-use Rattle.chisel_search.specs.Tournament.{part_at, knot_at, winner_at, entrant, best, due, due_by, open_below, open_by, numbers_in, parts_in, IsFamily, IsTree, IsOpen, IsShaped, IsJudgedBut, IsTournament, IsGrafted, IsGrown, HasAdded, KeepsTree, JudgesOne, Replaces, StandsAt}
+use Rattle.chisel_search.specs.Tournament.{part_at, knot_at, number_at, winner_at, entrant, entrant_of, best, IsNumber, due, due_by, open_below, open_by, numbers_in, parts_in, IsFamily, IsTree, IsOpen, IsShaped, IsJudgedBut, IsTournament, IsGrafted, IsGrown, HasAdded, KeepsTree, JudgesOne, Replaces, StandsAt}
 use Rattle.chisel_search.proofs.Grown.{each_open, grown_is, numbers_grown, parts_grown, tree_grown}
-use Rattle.chisel_search.proofs.Winners.{entrants, best_gathered}
+use Rattle.chisel_search.proofs.Winners.{entrants, best_gathered, best_is_entrant, entrant_kept, found_again, is_entrant, number_append, number_inside_parts, number_listed, number_of, number_one, number_set, number_weaker, IsEntrant}
 
 -- ---- the winners are the first of the least value
 
 pub wins : (t : Tournament) → IsTournament t → (deep n : ℕ) → n < length t.knots.items → length t.knots.items ≤ deep + n →
-    winner_at t.winners.items n ≡ best (entrants t.parts.items (open_below t.knots.items deep n))
+    winner_at t n ≡ best (entrants t.parts.items (open_below t.knots.items deep n))
 unfolding open_below
 wins t h zero n l m = absurd (omega arith)
 wins t h (suc deep) n l m = h.judged n l ∙ go (knot_at t.knots.items n).family refl (wins t h deep)
   where
     go : (f : Option Family) → (knot_at t.knots.items n).family ≡ f →
-        ((k : ℕ) → k < length t.knots.items → length t.knots.items ≤ deep + k → winner_at t.winners.items k ≡ best (entrants t.parts.items (open_below t.knots.items deep k))) →
+        ((k : ℕ) → k < length t.knots.items → length t.knots.items ≤ deep + k → winner_at t k ≡ best (entrants t.parts.items (open_below t.knots.items deep k))) →
         due_by t n f ≡ best (entrants t.parts.items (open_by n (λ k. open_below t.knots.items deep k) f))
     go None e rest = refl
     go (Some f) e rest =
         let w = h.shaped.tree.families n f l e in
-        best_gathered t.parts.items f.count (λ o. open_below t.knots.items deep (f.first + o)) (λ o. winner_at t.winners.items (f.first + o))
+        best_gathered t.parts.items f.count (λ o. open_below t.knots.items deep (f.first + o)) (λ o. winner_at t (f.first + o))
         (λ o u. let a = w.above in let b = w.inside in rest (f.first + o) (omega arith) (omega arith))
 
-pub winner_of_all : (t : Tournament) → IsTournament t → winner_at t.winners.items 0 ≡ best (entrants t.parts.items (numbers_in t))
+pub winner_of_all : (t : Tournament) → IsTournament t → winner_at t 0 ≡ best (entrants t.parts.items (numbers_in t))
 winner_of_all t h = wins t h (length t.knots.items) 0 h.shaped.tree.some (omega arith)
 
 -- ---- one is judged
 
+due_is_entrant : (t : Tournament) (n : ℕ) → IsShaped t → n < length t.knots.items → IsEntrant t.parts.items (due t n)
+due_is_entrant t n h l = go (knot_at t.knots.items n).family
+  where
+    go : (f : Option Family) → IsEntrant t.parts.items (due_by t n f)
+    go None = (let a = h.parts in omega arith, refl)
+    go (Some f) = best_is_entrant t.parts.items f.count (λ o. winner_at t (f.first + o)) (λ o u. is_entrant t.parts.items (number_at t.winners.items (f.first + o)) (h.numbers.inside (f.first + o)))
+
+pub judges_one : (old new : Tournament) (n : ℕ) → IsShaped old → n < length old.knots.items → new.parts ≡ old.parts →
+    new.winners.items ≡ slice_set old.winners.items n (number_of (due old n)) → JudgesOne old n new
+judges_one old new n h l parts winners =
+    let w = number_of (due old n) in
+    let e = due_is_entrant old n h l in
+    let inside : n < length old.winners.items = let a = h.winners in omega arith in
+    record {
+      one =
+          (λ i. entrant_of (parts i).items (number_at (winners i) n))
+          ∙ ap (entrant_of old.parts.items) (get_or-set_same old.winners.items n w None inside)
+          ∙ found_again old.parts.items (due old n) e;
+      others = λ k ne.
+          (λ i. entrant_of (parts i).items (number_at (winners i) k))
+          ∙ ap (entrant_of old.parts.items) (get_or-set_other old.winners.items n k w None ne);
+      numbers = record {
+        inside = λ k.
+            subst (λ ps. IsNumber (length ps.items) (number_at new.winners.items k)) (sym parts)
+            (subst (λ ws. IsNumber (length old.parts.items) (number_at ws k)) (sym winners)
+            (number_set (length old.parts.items) old.winners.items n w inside h.numbers.inside (number_inside_parts old.parts.items (due old n) e) k));
+      };
+    }
+
 -- what a part should know is the same, where it has the same children with the same winners
 due_same : (old new : Tournament) (n : ℕ) → (knot_at new.knots.items n).family ≡ (knot_at old.knots.items n).family →
     entrant new.parts.items n ≡ entrant old.parts.items n →
-    ((f : Family) → (knot_at old.knots.items n).family ≡ Some f → (o : ℕ) → o < f.count → winner_at new.winners.items (f.first + o) ≡ winner_at old.winners.items (f.first + o)) →
+    ((f : Family) → (knot_at old.knots.items n).family ≡ Some f → (o : ℕ) → o < f.count → winner_at new (f.first + o) ≡ winner_at old (f.first + o)) →
     due new n ≡ due old n
 due_same old new n family part winners =
     ap (due_by new n) family ∙ go (knot_at old.knots.items n).family winners
   where
-    go : (f : Option Family) → ((x : Family) → f ≡ Some x → (o : ℕ) → o < x.count → winner_at new.winners.items (x.first + o) ≡ winner_at old.winners.items (x.first + o)) →
+    go : (f : Option Family) → ((x : Family) → f ≡ Some x → (o : ℕ) → o < x.count → winner_at new (x.first + o) ≡ winner_at old (x.first + o)) →
         due_by new n f ≡ due_by old n f
     go None w = ap (λ x. Some x) part
-    go (Some f) w = ap best (listed_agree None f.count (λ o. winner_at new.winners.items (f.first + o)) (λ o. winner_at old.winners.items (f.first + o)) (w f refl))
+    go (Some f) w = ap best (listed_agree None f.count (λ o. winner_at new (f.first + o)) (λ o. winner_at old (f.first + o)) (w f refl))
 
 module _ (old new : Tournament) (n : ℕ) (shaped : IsShaped old) (keeps : KeepsTree old new) (one : JudgesOne old n new) where
   pub still_shaped : IsShaped new
@@ -59,18 +87,19 @@ module _ (old new : Tournament) (n : ℕ) (shaped : IsShaped old) (keeps : Keeps
     tree = subst (λ ks. IsTree ks.items) (sym keeps.knots) shaped.tree;
     parts = (λ i. length (keeps.parts i).items) ∙ shaped.parts ∙ (λ i. length (sym keeps.knots i).items);
     winners = keeps.winners ∙ shaped.winners ∙ (λ i. length (sym keeps.knots i).items);
+    numbers = one.numbers;
   }
 
   -- a part that isn't the parent of the one that was judged
-  still_judged : (k : ℕ) → k < length old.knots.items → (0 < n → k ≢ (knot_at old.knots.items n).parent) → (k ≢ n → winner_at old.winners.items k ≡ due old k) →
-      winner_at new.winners.items k ≡ due new k
+  still_judged : (k : ℕ) → k < length old.knots.items → (0 < n → k ≢ (knot_at old.knots.items n).parent) → (k ≢ n → winner_at old k ≡ due old k) →
+      winner_at new k ≡ due new k
   still_judged k l above judged =
       let same = due_same old new k (ap (λ ks. (knot_at ks.items k).family) keeps.knots) (ap (λ ps. entrant ps.items k) keeps.parts)
       (λ f e o u. let w = shaped.tree.families k f l e in
       one.others (f.first + o) (λ q. let a = w.above in let b = w.inside in
       above (omega arith) (sym (w.children o u) ∙ ap (λ z. (knot_at old.knots.items z).parent) q))) in
       by_test (k == n)
-      (λ e. let q = eqb-true k n e in ap (winner_at new.winners.items) q ∙ one.one ∙ ap (due old) (sym q) ∙ sym same)
+      (λ e. let q = eqb-true k n e in ap (winner_at new) q ∙ one.one ∙ ap (due old) (sym q) ∙ sym same)
       (λ e. let ne = differ k n e in one.others k ne ∙ judged ne ∙ sym same)
 
   size : length new.knots.items ≡ length old.knots.items
@@ -95,9 +124,10 @@ module _ (old new : Tournament) (n : ℕ) (children : List Part) (h : IsTourname
     tree = tree_grown old.knots.items new.knots.items n (length children) h.shaped.tree at g.knots;
     parts = ap length g.parts ∙ (let a = length-append old.parts.items children in let b = h.shaped.parts in let c = g.knots.size in omega arith);
     winners = g.winners;
+    numbers = g.numbers;
   }
 
-  old_judged : (k : ℕ) → k < length old.knots.items → k ≢ n → winner_at new.winners.items k ≡ due new k
+  old_judged : (k : ℕ) → k < length old.knots.items → k ≢ n → winner_at new k ≡ due new k
   old_judged k l ne =
       let inside : k < length old.parts.items = let a = h.shaped.parts in omega arith in
       g.kept k l ∙ h.judged k l
@@ -105,12 +135,12 @@ module _ (old new : Tournament) (n : ℕ) (children : List Part) (h : IsTourname
       (ap (λ ps. entrant ps k) g.parts ∙ ap (λ (p : Part). record { number = k; value = p.value }) (get_or_append_left old.parts.items children (part_at [] 0) k inside))
       (λ f e o u. let w = h.shaped.tree.families k f l e in g.kept (f.first + o) (let a = w.inside in omega arith)))
 
-  new_judged : (k : ℕ) → length old.knots.items ≤ k → k < length new.knots.items → winner_at new.winners.items k ≡ due new k
+  new_judged : (k : ℕ) → length old.knots.items ≤ k → k < length new.knots.items → winner_at new k ≡ due new k
   new_judged k l m =
       let size = g.knots.size in
       let o : ℕ = k - length old.knots.items in
       let z : length old.knots.items + o ≡ k = omega arith in
-      subst (λ j. winner_at new.winners.items j ≡ due new j) z
+      subst (λ j. winner_at new j ≡ due new j) z
       (g.fresh o (omega arith) ∙ sym (ap (λ (x : Knot). due_by new (length old.knots.items + o) x.family) (g.knots.fresh o (omega arith))))
 
   pub grafted_judged : IsJudgedBut new n
@@ -146,8 +176,8 @@ module _ (none t : Tournament) (p : Part) (a : HasAdded none p 0 t) (no_parts : 
   knots : t.knots.items ≡ record { parent = 0; family = None } ∷ []
   knots = a.knots ∙ ap (λ l. l ++ record { parent = 0; family = None } ∷ []) no_knots
 
-  winners : t.winners.items ≡ Some (record { number = 0; value = p.value }) ∷ []
-  winners = a.winners ∙ (λ i. no_winners i ++ Some (record { number = length (no_parts i); value = p.value }) ∷ [])
+  winners : t.winners.items ≡ Some 0 ∷ []
+  winners = a.winners ∙ (λ i. no_winners i ++ Some (length (no_parts i)) ∷ [])
 
   pub first_numbers : numbers_in t ≡ 0 ∷ []
   unfolding open_below
@@ -174,12 +204,14 @@ module _ (none t : Tournament) (p : Part) (a : HasAdded none p 0 t) (no_parts : 
           };
           parts = omega arith;
           winners = omega arith;
+          numbers = record {
+            inside = λ k. subst (λ ws. IsNumber (length t.parts.items) (number_at ws k)) (sym winners) (number_one (length t.parts.items) 0 (omega arith) k);
+          };
         };
         judged = λ k l.
             let z : k ≡ 0 = omega arith in
-            subst (λ j. winner_at t.winners.items j ≡ due t j) (sym z)
-            (ap (λ ws. winner_at ws 0) winners
-            ∙ sym (ap (λ ks. due_by t 0 (knot_at ks 0).family) knots ∙ ap (λ ps. Some (entrant ps 0)) parts));
+            subst (λ j. winner_at t j ≡ due t j) (sym z)
+            (ap (λ ws. entrant_of t.parts.items (number_at ws 0)) winners ∙ sym (ap (λ ks. due_by t 0 (knot_at ks 0).family) knots));
       }
 
 -- ---- some children are added
@@ -187,7 +219,7 @@ module _ (none t : Tournament) (p : Part) (a : HasAdded none p 0 t) (no_parts : 
 pub record HasFresh (old : Tournament) (n : ℕ) (children : List Part) (o : ℕ) (new : Tournament) : Type 0 where
   pub parts : new.parts.items ≡ old.parts.items ++ take o children
   pub knots : new.knots.items ≡ old.knots.items ++ list_to o (λ k. record { parent = n; family = None })
-  pub winners : new.winners.items ≡ old.winners.items ++ list_to o (λ k. Some (record { number = length old.parts.items + k; value = (part_at children k).value }))
+  pub winners : new.winners.items ≡ old.winners.items ++ list_to o (λ k. Some (length old.parts.items + k))
 
 pub fresh_none : (t : Tournament) (n : ℕ) (children : List Part) → HasFresh t n children 0 t
 unfolding list_to
@@ -212,9 +244,9 @@ fresh_more old n children o t new l h a =
           ∙ ap (λ l. old.knots.items ++ l) (sym (listed_more o (λ k. record { parent = n; family = None })));
       winners =
           a.winners
-          ∙ (λ i. h.winners i ++ Some (record { number = size i; value = (part_at children o).value }) ∷ [])
-          ∙ append_assoc old.winners.items (list_to o (λ k. Some (record { number = length old.parts.items + k; value = (part_at children k).value }))) (Some (record { number = length old.parts.items + o; value = (part_at children o).value }) ∷ [])
-          ∙ ap (λ l. old.winners.items ++ l) (sym (listed_more o (λ k. Some (record { number = length old.parts.items + k; value = (part_at children k).value }))));
+          ∙ (λ i. h.winners i ++ Some (size i) ∷ [])
+          ∙ append_assoc old.winners.items (list_to o (λ k. Some (length old.parts.items + k))) (Some (length old.parts.items + o) ∷ [])
+          ∙ ap (λ l. old.winners.items ++ l) (sym (listed_more o (λ k. Some (length old.parts.items + k))));
     }
 
 pub grafted : (old : Tournament) (n : ℕ) (children : List Part) (t new : Tournament) → IsShaped old → n < length old.knots.items →
@@ -223,7 +255,7 @@ pub grafted : (old : Tournament) (n : ℕ) (children : List Part) (t new : Tourn
     IsGrafted old n children new
 grafted old n children t new shaped l h parts winners knots =
     let c = length children in
-    let winner : ℕ → Option Entrant = λ k. Some (record { number = length old.parts.items + k; value = (part_at children k).value }) in
+    let winner : ℕ → Option ℕ = λ k. Some (length old.parts.items + k) in
     let fresh : List Knot = list_to c (λ k. record { parent = n; family = None }) in
     let parent : (knot_at t.knots.items n).parent ≡ (knot_at old.knots.items n).parent =
     ap (λ ks. (knot_at ks n).parent) h.knots ∙ ap (λ (k : Knot). k.parent) (get_or_append_left old.knots.items fresh (knot_at [] 0) n l) in
@@ -232,21 +264,29 @@ grafted old n children t new shaped l h parts winners knots =
     (knots ∙ (λ i. slice_set (h.knots i) n (record { parent = parent i; family = Some (record { first = shaped.parts i; count = c }) }))) in
     let all_parts : new.parts.items ≡ old.parts.items ++ children = parts ∙ h.parts ∙ ap (λ l. old.parts.items ++ l) (take-length children) in
     let all_winners : new.winners.items ≡ old.winners.items ++ list_to c winner = winners ∙ h.winners in
+    let parts_size : length new.parts.items ≡ length old.parts.items + c = ap length all_parts ∙ length-append old.parts.items children in
     record {
       knots = grown;
       parts = all_parts;
       winners =
           ap length all_winners ∙ length-append old.winners.items (list_to c winner)
           ∙ (let a = length_listed c winner in let b = shaped.winners in let e = grown.size in omega arith);
-      kept = λ k m. ap (λ ws. winner_at ws k) all_winners ∙ get_or_append_left old.winners.items (list_to c winner) None k (let b = shaped.winners in omega arith);
+      numbers = record {
+        inside = λ k.
+            subst (λ ws. IsNumber (length new.parts.items) (number_at ws k)) (sym all_winners)
+            (number_append (length new.parts.items) old.winners.items (list_to c winner)
+            (λ j. number_weaker (length old.parts.items) (length new.parts.items) (number_at old.winners.items j) (omega arith) (shaped.numbers.inside j))
+            (number_listed (length new.parts.items) c (λ k. length old.parts.items + k) (λ o m. omega arith)) k);
+      };
+      kept = λ k m.
+          (λ i. entrant_of (all_parts i) (number_at (all_winners i) k))
+          ∙ ap (entrant_of (old.parts.items ++ children)) (get_or_append_left old.winners.items (list_to c winner) None k (let b = shaped.winners in omega arith))
+          ∙ entrant_kept old.parts.items children (number_at old.winners.items k) (shaped.numbers.inside k);
       fresh = λ o m.
-          ap (λ ws. winner_at ws (length old.knots.items + o)) all_winners
-          ∙ ap (λ k. winner_at (old.winners.items ++ list_to c winner) (k + o)) (sym shaped.winners)
+          ap (entrant_of new.parts.items)
+          (ap (λ ws. number_at ws (length old.knots.items + o)) all_winners
+          ∙ ap (λ k. number_at (old.winners.items ++ list_to c winner) (k + o)) (sym shaped.winners)
           ∙ get_or-append-add old.winners.items (list_to c winner) o None
           ∙ listed_at c winner o None m
-          ∙ (λ i. Some (record { number = shaped.parts i + o; value = (part_at children o).value }))
-          ∙ sym (ap (λ (p : Part). Some (record { number = length old.knots.items + o; value = p.value }))
-          (ap (λ ps. part_at ps (length old.knots.items + o)) all_parts
-          ∙ ap (λ k. part_at (old.parts.items ++ children) (k + o)) (sym shaped.parts)
-          ∙ get_or-append-add old.parts.items children o (part_at [] 0)));
+          ∙ (λ i. Some (shaped.parts i + o)));
     }

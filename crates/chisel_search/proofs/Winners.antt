@@ -1,16 +1,17 @@
 -- Who wins among some parts: the first of the least value.
-use Rattle.std.proofs.Common.{◌≡◌, true, false, ℕ, zero, suc, ◌<◌, List, [], ◌∷◌, ◌++◌, length, map, refl, sym, ap, subst, ◌∙◌, arith, Option, Some, None}
-use Rattle.std.specs.Prelude.{slice_index, int_lt}
+use Rattle.std.proofs.Common.{◌≡◌, true, false, ℕ, zero, suc, ◌<◌, ◌≤◌, ◌==◌, List, [], ◌∷◌, ◌++◌, length, map, refl, sym, ap, subst, ◌∙◌, arith, Option, Some, None}
+use Rattle.std.specs.Prelude.{slice_index, slice_set, int_lt}
 use Rattle.std.proofs.lemmas.Int.{ints}
-use Rattle.std.proofs.lemmas.List.{get_or-map, length-map, map-append}
+use Rattle.std.proofs.lemmas.Bool.{eqb-true}
+use Rattle.std.proofs.lemmas.List.{get_or-map, get_or_append_left, get_or-set_same, get_or-set_other, length-map, map-append}
 use lib.IntN.{ℤ, pos}
 use lib.Signed.{◌≤ℤ◌, ◌<ℤ◌}
 use Rattle.chisel_table.specs.Sums.{list_to}
-use Rattle.chisel_table.proofs.Sums.{by_test, int_below, int_above, is_int_below}
+use Rattle.chisel_table.proofs.Sums.{by_test, differ, int_below, int_above, is_int_below}
 use Rattle.chisel_search.specs.declared.part.Part.{Part}
 use Rattle.chisel_search.specs.declared.tournament.Entrant.{Entrant}
 use Rattle.chisel_search.specs.Rules.{IsFirstLeast, value_at}
-use Rattle.chisel_search.specs.Tournament.{part_at, entrant, better, best, gathered}
+use Rattle.chisel_search.specs.Tournament.{part_at, number_at, entrant, entrant_of, better, best, gathered, IsNumber}
 
 -- ---- the better of two
 
@@ -48,6 +49,78 @@ best_append (x ∷ xs) ys = ap (better x) (best_append xs ys) ∙ sym (better_as
 
 pub best_push : (xs : List (Option Entrant)) (x : Option Entrant) → best (xs ++ x ∷ []) ≡ better (best xs) x
 best_push xs x = best_append xs (x ∷ []) ∙ ap (better (best xs)) (better_none x)
+
+-- ---- who wins is a part
+
+abbrev pub number_of : Option Entrant → Option ℕ
+number_of None = None
+number_of (Some x) = Some x.number
+
+-- a part with its own value, where there is one
+abbrev pub IsEntrant : List Part → Option Entrant → Type 0
+IsEntrant ps None = Unit {0}
+IsEntrant ps (Some e) = e.number < length ps × entrant ps e.number ≡ e
+
+pub is_entrant : (ps : List Part) (w : Option ℕ) → IsNumber (length ps) w → IsEntrant ps (entrant_of ps w)
+is_entrant ps None h = tt
+is_entrant ps (Some n) h = (h, refl)
+
+better_is_entrant : (ps : List Part) (x y : Option Entrant) → IsEntrant ps x → IsEntrant ps y → IsEntrant ps (better x y)
+better_is_entrant ps None y h k = k
+better_is_entrant ps (Some x) None h k = h
+better_is_entrant ps (Some x) (Some y) h k =
+    by_test (int_lt y.value x.value)
+    (λ e. subst (IsEntrant ps) (sym (takes_second x y e)) k)
+    (λ e. subst (IsEntrant ps) (sym (takes_first x y e)) h)
+
+pub best_is_entrant : (ps : List Part) (n : ℕ) (w : ℕ → Option Entrant) → ((o : ℕ) → o < n → IsEntrant ps (w o)) → IsEntrant ps (best (list_to n w))
+unfolding list_to
+best_is_entrant ps zero w h = tt
+best_is_entrant ps (suc n) w h =
+    subst (IsEntrant ps) (sym (best_push (list_to n w) (w n)))
+    (better_is_entrant ps (best (list_to n w)) (w n) (best_is_entrant ps n w (λ o l. h o (omega arith))) (h n (omega arith)))
+
+pub number_inside_parts : (ps : List Part) (e : Option Entrant) → IsEntrant ps e → IsNumber (length ps) (number_of e)
+number_inside_parts ps None h = tt
+number_inside_parts ps (Some e) h = h.0
+
+pub found_again : (ps : List Part) (e : Option Entrant) → IsEntrant ps e → entrant_of ps (number_of e) ≡ e
+found_again ps None h = refl
+found_again ps (Some e) h = ap (λ x. Some x) h.1
+
+-- parts that are added change no entrant
+pub entrant_kept : (ps new : List Part) (w : Option ℕ) → IsNumber (length ps) w → entrant_of (ps ++ new) w ≡ entrant_of ps w
+entrant_kept ps new None h = refl
+entrant_kept ps new (Some n) h = ap (λ (p : Part). Some (record { number = n; value = p.value })) (get_or_append_left ps new (part_at [] 0) n h)
+
+-- ---- numbers of parts
+
+pub number_weaker : (a b : ℕ) (w : Option ℕ) → a ≤ b → IsNumber a w → IsNumber b w
+number_weaker a b None l h = tt
+number_weaker a b (Some n) l h = omega arith
+
+pub number_one : (b n : ℕ) → n < b → (k : ℕ) → IsNumber b (number_at (Some n ∷ []) k)
+number_one b n l zero = l
+number_one b n l (suc k) = tt
+
+pub number_append : (b : ℕ) (ws new : List (Option ℕ)) → ((k : ℕ) → IsNumber b (number_at ws k)) → ((k : ℕ) → IsNumber b (number_at new k)) →
+    (k : ℕ) → IsNumber b (number_at (ws ++ new) k)
+number_append b [] new h g k = g k
+number_append b (w ∷ ws) new h g zero = h 0
+number_append b (w ∷ ws) new h g (suc k) = number_append b ws new (λ j. h (suc j)) g k
+
+pub number_listed : (b n : ℕ) (f : ℕ → ℕ) → ((o : ℕ) → o < n → f o < b) → (k : ℕ) → IsNumber b (number_at (list_to n (λ o. Some (f o))) k)
+unfolding list_to
+number_listed b zero f h k = tt
+number_listed b (suc n) f h k =
+    number_append b (list_to n (λ o. Some (f o))) (Some (f n) ∷ []) (number_listed b n f (λ o l. h o (omega arith))) (number_one b (f n) (h n (omega arith))) k
+
+pub number_set : (b : ℕ) (ws : List (Option ℕ)) (n : ℕ) (w : Option ℕ) → n < length ws → ((k : ℕ) → IsNumber b (number_at ws k)) → IsNumber b w →
+    (k : ℕ) → IsNumber b (number_at (slice_set ws n w) k)
+number_set b ws n w l h g k =
+    by_test (k == n)
+    (λ e. let q = eqb-true k n e in subst (λ j. IsNumber b (number_at (slice_set ws n w) j)) (sym q) (subst (IsNumber b) (sym (get_or-set_same ws n w None l)) g))
+    (λ e. subst (IsNumber b) (sym (get_or-set_other ws n k w None (differ k n e))) (h k))
 
 -- ---- of some numbers
 

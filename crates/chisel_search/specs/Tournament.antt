@@ -17,13 +17,21 @@ part_at ps n = slice_index_or ps n (record { partial = record { size = 0; slots 
 abbrev pub knot_at : List Knot → ℕ → Knot
 knot_at ks n = slice_index_or ks n (record { parent = 0; family = Some (record { first = 0; count = 0 }) })
 
-abbrev pub winner_at : List (Option Entrant) → ℕ → Option Entrant
-winner_at ws n = slice_index_or ws n None
+abbrev pub number_at : List (Option ℕ) → ℕ → Option ℕ
+number_at ws n = slice_index_or ws n None
 
 -- ---- who wins
 
 abbrev pub entrant : List Part → ℕ → Entrant
 entrant ps n = record { number = n; value = (part_at ps n).value }
+
+abbrev pub entrant_of : List Part → Option ℕ → Option Entrant
+entrant_of ps None = None
+entrant_of ps (Some n) = Some (entrant ps n)
+
+-- the winner that part n knows
+abbrev pub winner_at : Tournament → ℕ → Option Entrant
+winner_at t n = entrant_of t.parts.items (number_at t.winners.items n)
 
 -- the second where its value is less, and else the first
 abbrev pub better : Option Entrant → Option Entrant → Option Entrant
@@ -39,7 +47,7 @@ best (x ∷ xs) = better x (best xs)
 -- who wins among a part and those below it: itself while it is open, and else the best of its children's winners
 abbrev pub due_by : Tournament → ℕ → Option Family → Option Entrant
 due_by t n None = Some (entrant t.parts.items n)
-due_by t n (Some f) = best (list_to f.count (λ o. winner_at t.winners.items (f.first + o)))
+due_by t n (Some f) = best (list_to f.count (λ o. winner_at t (f.first + o)))
 
 abbrev pub due : Tournament → ℕ → Option Entrant
 due t n = due_by t n (knot_at t.knots.items n).family
@@ -86,25 +94,31 @@ pub record IsOpen (ks : List Knot) (n : ℕ) : Type 0 where
 
 -- ---- the tournament
 
+-- the number of one of so many parts, where there is one
+abbrev pub IsNumber : ℕ → Option ℕ → Type 0
+IsNumber size None = Unit {0}
+IsNumber size (Some n) = n < size
+
+-- the winners are parts
+pub record AreParts (t : Tournament) : Type 0 where
+  pub inside : (k : ℕ) → IsNumber (length t.parts.items) (number_at t.winners.items k)
+
 pub record IsShaped (t : Tournament) : Type 0 where
   pub tree : IsTree t.knots.items
   pub parts : length t.parts.items ≡ length t.knots.items
   pub winners : length t.winners.items ≡ length t.knots.items
+  pub numbers : AreParts t
 
 -- each part but one knows its winner
 pub record IsJudgedBut (t : Tournament) (n : ℕ) : Type 0 where
-  pub judged : (k : ℕ) → k < length t.knots.items → k ≢ n → winner_at t.winners.items k ≡ due t k
+  pub judged : (k : ℕ) → k < length t.knots.items → k ≢ n → winner_at t k ≡ due t k
 
 pub record IsTournament (t : Tournament) : Type 0 where
   pub shaped : IsShaped t
-  pub judged : (k : ℕ) → k < length t.knots.items → winner_at t.winners.items k ≡ due t k
-
-abbrev pub number_of : Option Entrant → Option ℕ
-number_of None = None
-number_of (Some x) = Some x.number
+  pub judged : (k : ℕ) → k < length t.knots.items → winner_at t k ≡ due t k
 
 abbrev pub winning_number : Tournament → Option ℕ
-winning_number t = number_of (winner_at t.winners.items 0)
+winning_number t = number_at t.winners.items 0
 
 -- ---- what changes
 
@@ -112,7 +126,7 @@ winning_number t = number_of (winner_at t.winners.items 0)
 pub record HasAdded (old : Tournament) (part : Part) (parent : ℕ) (new : Tournament) : Type 0 where
   pub parts : new.parts.items ≡ old.parts.items ++ part ∷ []
   pub knots : new.knots.items ≡ old.knots.items ++ record { parent = parent; family = None } ∷ []
-  pub winners : new.winners.items ≡ old.winners.items ++ Some (record { number = length old.parts.items; value = part.value }) ∷ []
+  pub winners : new.winners.items ≡ old.winners.items ++ Some (length old.parts.items) ∷ []
 
 pub record KeepsTree (old new : Tournament) : Type 0 where
   pub parts : new.parts ≡ old.parts
@@ -121,8 +135,9 @@ pub record KeepsTree (old new : Tournament) : Type 0 where
 
 -- part n knows its winner, and all others know what they knew
 pub record JudgesOne (old : Tournament) (n : ℕ) (new : Tournament) : Type 0 where
-  pub one : winner_at new.winners.items n ≡ due old n
-  pub others : (k : ℕ) → k ≢ n → winner_at new.winners.items k ≡ winner_at old.winners.items k
+  pub one : winner_at new n ≡ due old n
+  pub others : (k : ℕ) → k ≢ n → winner_at new k ≡ winner_at old k
+  pub numbers : AreParts new
 
 -- part n has so many children behind all others
 pub record IsGrown (old : List Knot) (n count : ℕ) (new : List Knot) : Type 0 where
@@ -136,8 +151,9 @@ pub record IsGrafted (old : Tournament) (n : ℕ) (children : List Part) (new : 
   pub knots : IsGrown old.knots.items n (length children) new.knots.items
   pub parts : new.parts.items ≡ old.parts.items ++ children
   pub winners : length new.winners.items ≡ length new.knots.items
-  pub kept : (k : ℕ) → k < length old.knots.items → winner_at new.winners.items k ≡ winner_at old.winners.items k
-  pub fresh : (o : ℕ) → o < length children → winner_at new.winners.items (length old.knots.items + o) ≡ Some (entrant new.parts.items (length old.knots.items + o))
+  pub numbers : AreParts new
+  pub kept : (k : ℕ) → k < length old.knots.items → winner_at new k ≡ winner_at old k
+  pub fresh : (o : ℕ) → o < length children → winner_at new (length old.knots.items + o) ≡ Some (entrant new.parts.items (length old.knots.items + o))
 
 -- x stands at place k alone
 pub record StandsAt (xs : List ℕ) (k x : ℕ) : Type 0 where

@@ -50,6 +50,7 @@ pub fn search_best_first<'a, F: Fn(&Table, &Partial) -> u32>(
         }
         step(&differences, &mut machine, &mut tournament, rule, number)?;
     }
+    drop(tournament);
     Ok(certify(alloc, arena, &differences, machine)?)
 }
 
@@ -59,7 +60,7 @@ fn step<F: Fn(&Table, &Partial) -> u32>(
     machine: &mut Machine,
     tournament: &mut Tournament,
     rule: &Rule<F>,
-    number: usize,
+    number: u32,
 ) -> Result<(), AllocError>
     requires rule { IsRule F.pre F.post rule.now }
     requires searching { IsBestFirst differences.now
@@ -69,8 +70,8 @@ fn step<F: Fn(&Table, &Partial) -> u32>(
         (Answered F.post rule.now (table_of differences.now)) machine.new tournament.new) }
     ensures visits { OnOk result (length machine.new.log.items ≡ length machine.old.log.items + 1) }
 {
-    let partial = tournament.parts[number].partial;
-    let children = machine.visit(differences, rule, number, &partial)?;
+    let partial = tournament.parts[number as usize].partial;
+    let children = machine.visit(differences, rule, number as usize, &partial)?;
     tournament.replace(number, &children)?;
     Ok(())
 }

@@ -7,7 +7,7 @@ ghost use Rattle.chisel_table.specs.Valid.{IsTable};
 ghost use Rattle.chisel_bound.specs.Kept.{all_bounds};
 ghost use Rattle.chisel_search.specs.Machine.{pool_of, table_of};
 ghost use Rattle.chisel_search.specs.Search.{part_of};
-ghost use Rattle.chisel_search.specs.Tournament.{best, better, winner_at};
+ghost use Rattle.chisel_search.specs.Tournament.{best, better, entrant, winner_at};
 
 use crate::part::Part;
 use chisel_bound::{Bounds, Differences, greatest_value};
@@ -17,33 +17,33 @@ use std::alloc::{AllocError, Global};
 /// An open part, by its number and its value.
 #[derive(Clone, Copy)]
 pub(crate) struct Entrant {
-    pub(crate) number: usize,
+    pub(crate) number: u32,
     pub(crate) value: i128,
 }
 
 /// The children of a part, by their numbers.
 #[derive(Clone, Copy)]
 pub(crate) struct Family {
-    pub(crate) first: usize,
-    pub(crate) count: usize,
+    pub(crate) first: u32,
+    pub(crate) count: u32,
 }
 
 /// Where a part stands in the tree of parts.
 #[derive(Clone, Copy)]
 pub(crate) struct Knot {
     /// The part of which it is a child. Nothing reads that of the root.
-    pub(crate) parent: usize,
+    pub(crate) parent: u32,
     /// Where the part was taken its children, none where it was closed.
     pub(crate) family: Option<Family>,
 }
 
-/// All parts that there ever were, by their numbers.
+/// All parts that there ever were, by their numbers, which are of 32 bits since there are many.
 #[derive(Drop)]
 pub(crate) struct Tournament {
     pub(crate) parts: Vec<Part>,
     pub(crate) knots: Vec<Knot>,
-    /// The first of the least value among the open parts from this one on.
-    pub(crate) winners: Vec<Option<Entrant>>,
+    /// The first of the least value among the open parts from this one on, by its number.
+    pub(crate) winners: Vec<Option<u32>>,
 }
 
 impl Tournament {
@@ -76,16 +76,15 @@ impl Tournament {
     }
 
     /// The number of the first open part of the least value.
-    pub(crate) fn winner(&self) -> Option<usize>
+    pub(crate) fn winner(&self) -> Option<u32>
         requires { IsTournament self.now }
         ensures { result ≡ winning_number self.now }
     {
-        let winner = self.winners[0]?;
-        Some(winner.number)
+        self.winners[0]
     }
 
     /// Puts children in the place of an open part. Their numbers are the next ones.
-    pub(crate) fn replace(&mut self, number: usize, children: &[Part]) -> Result<(), AllocError>
+    pub(crate) fn replace(&mut self, number: u32, children: &[Part]) -> Result<(), AllocError>
         requires tournament { IsTournament self.old }
         requires number { IsOpen self.old.knots.items number }
         ensures tournament { OnOk result (IsTournament self.new) }
@@ -97,35 +96,34 @@ impl Tournament {
     }
 
     // Adds children below an open part, and leaves it to `climb` who wins.
-    fn graft(&mut self, number: usize, children: &[Part]) -> Result<(), AllocError>
+    fn graft(&mut self, number: u32, children: &[Part]) -> Result<(), AllocError>
         requires tournament { IsTournament self.old }
         requires number { IsOpen self.old.knots.items number }
         ensures { OnOk result (IsGrafted self.old number children.now self.new) }
     {
-        let first = self.parts.len();
+        let first = in_32_bits(self.parts.len())?;
+        let count = in_32_bits(children.len())?;
         for o in 0..children.len() {
             self.add(children[o], number)?;
         }
-        let count = children.len();
-        self.knots[number].family = Some(Family { first, count });
+        self.knots[number as usize].family = Some(Family { first, count });
         Ok(())
     }
 
     // Adds an open part.
-    fn add(&mut self, part: Part, parent: usize) -> Result<(), AllocError>
+    fn add(&mut self, part: Part, parent: u32) -> Result<(), AllocError>
         ensures { OnOk result (HasAdded self.old part parent self.new) }
     {
-        let number = self.parts.len();
-        let value = part.value;
+        let number = in_32_bits(self.parts.len())?;
         self.parts.push(part)?;
         let family = None;
         self.knots.push(Knot { parent, family })?;
-        self.winners.push(Some(Entrant { number, value }))?;
+        self.winners.push(Some(number))?;
         Ok(())
     }
 
     // Judges a part and all that stand above it.
-    fn climb(&mut self, number: usize)
+    fn climb(&mut self, number: u32)
         requires shaped { IsShaped self.old }
         requires number { number < length self.old.knots.items }
         requires judged { IsJudgedBut self.old number }
@@ -135,48 +133,65 @@ impl Tournament {
         let mut place = number;
         while place > 0 {
             self.judge(place);
-            place = self.knots[place].parent;
+            place = self.knots[place as usize].parent;
         }
         self.judge(0);
     }
 
     // Says anew who wins among a part and those below it.
-    fn judge(&mut self, number: usize)
+    fn judge(&mut self, number: u32)
         requires shaped { IsShaped self.old }
         requires number { number < length self.old.knots.items }
         ensures tree { KeepsTree self.old self.new }
         ensures judged { JudgesOne self.old number self.new }
     {
         let winner = self.due(number);
-        self.winners[number] = winner;
+        self.winners[number as usize] = winner.map(|entrant| entrant.number);
     }
 
     // Who wins among a part and those below it, by what its children know.
-    fn due(&self, number: usize) -> Option<Entrant>
+    fn due(&self, number: u32) -> Option<Entrant>
         requires shaped { IsShaped self.now }
         requires number { number < length self.now.knots.items }
         ensures { result ≡ due self.now number }
     {
-        match self.knots[number].family {
-            None => Some(Entrant {
-                number,
-                value: self.parts[number].value,
-            }),
-            Some(family) => best_of(&self.winners, family),
+        match self.knots[number as usize].family {
+            None => Some(self.entrant(number)),
+            Some(family) => self.best_of(family),
         }
     }
-}
 
-// The best of a family.
-fn best_of(winners: &[Option<Entrant>], family: Family) -> Option<Entrant>
-    requires { family.first + family.count ≤ length winners.now }
-    ensures { result ≡ best (list_to family.count (λ o. winner_at winners.now (family.first + o))) }
-{
-    let mut best = None;
-    for o in 0..family.count {
-        best = better(best, winners[family.first + o]);
+    // The best of a family.
+    fn best_of(&self, family: Family) -> Option<Entrant>
+        requires shaped { IsShaped self.now }
+        requires inside { family.first + family.count ≤ length self.now.winners.items }
+        ensures { result ≡ best (list_to family.count (λ o. winner_at self.now (family.first + o))) }
+    {
+        let first = family.first as usize;
+        let mut best = None;
+        for o in 0..family.count as usize {
+            best = better(best, self.winner_at(first + o));
+        }
+        best
     }
-    best
+
+    // Who was the last to win among a part and those below it.
+    fn winner_at(&self, number: usize) -> Option<Entrant>
+        requires shaped { IsShaped self.now }
+        requires number { number < length self.now.winners.items }
+        ensures { result ≡ winner_at self.now number }
+    {
+        let winner = self.winners[number]?;
+        Some(self.entrant(winner))
+    }
+
+    fn entrant(&self, number: u32) -> Entrant
+        requires { number < length self.now.parts.items }
+        ensures { result ≡ entrant self.now.parts.items number }
+    {
+        let value = self.parts[number as usize].value;
+        Entrant { number, value }
+    }
 }
 
 // The second where its value is less, and else the first.
@@ -187,5 +202,15 @@ fn better(first: Option<Entrant>, second: Option<Entrant>) -> Option<Entrant>
         (Some(one), Some(other)) if other.value < one.value => Some(other),
         (None, other) => other,
         (one, _) => one,
+    }
+}
+
+// More parts than 32 bits count are want of memory.
+fn in_32_bits(count: usize) -> Result<u32, AllocError>
+    ensures { IfOk result (λ narrow. narrow ≡ count) }
+{
+    match u32::try_from(count) {
+        Ok(narrow) => Ok(narrow),
+        Err(_) => Err(AllocError),
     }
 }

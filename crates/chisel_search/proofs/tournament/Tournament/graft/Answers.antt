@@ -21,8 +21,9 @@ returns c =
     let e = ap length c.loop-o.invariant.knots in
     let a = length-append c.args.self.now.knots.items (list_to c.loop-o.o (λ k. record { parent = c.args.number; family = None })) in
     let i = c.requires.number.inside in omega arith in
-    let first : c.len-first.result ≡ length c.args.self.now.parts.items = let o = c.args.self.now.parts.ok in omega arith in
+    let first : c.in_ok-first.first ≡ length c.args.self.now.parts.items = let o = c.args.self.now.parts.ok in let n = c.in_ok-first.ensures in let l = c.len.ensures in omega arith in
+    let count : c.in_ok-count.count ≡ length c.args.children.now = let n = c.in_ok-count.ensures in omega arith in
     let parent = ap (λ (k : Knot). k.parent) (get_or_read c.loop-o.self.knots.items c.args.number c.index_mut.result.now here c.index_mut.ensures.value (knot_at [] 0)) in
     grafted c.args.self.now c.args.number c.args.children.now c.loop-o.self _ c.requires.tournament.shaped c.requires.number.inside
     (subst (λ o. HasFresh c.args.self.now c.args.number c.args.children.now o c.loop-o.self) o c.loop-o.invariant) refl refl
-    (λ i. slice_set c.loop-o.self.knots.items c.args.number (record { parent = parent i; family = Some (record { first = first i; count = length c.args.children.now }) }))
+    (λ i. slice_set c.loop-o.self.knots.items c.args.number (record { parent = parent i; family = Some (record { first = first i; count = count i }) }))
