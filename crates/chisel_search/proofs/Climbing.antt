@@ -3,7 +3,8 @@ use Rattle.std.proofs.Common.{◌≡◌, ◌≢◌, ℕ, zero, suc, ◌+◌, ◌
 use Rattle.std.specs.Prelude.{slice_set, nat_lt}
 use Rattle.std.proofs.lemmas.Bool.{eqb-true, ltb-true, ltb-false}
 use Rattle.std.proofs.Math.Seq.{take-length}
-use Rattle.std.proofs.lemmas.List.{append-nil, get_or_append_left, get_or-append-add, get_or-set_same, get_or-set_other, length-append, length-take-le, take_more}
+use Rattle.std.proofs.lemmas.List.{append-nil, get_or_append_left, get_or-append-add, get_or-set_same, get_or-set_other, length-append, length-map, length-take-le, take_more}
+use lib.IntN.{ℤ, pos}
 use Rattle.chisel_table.specs.Sums.{list_to}
 use Rattle.chisel_table.proofs.Sums.{by_test, differ}
 use Rattle.chisel_bound.proofs.Lists.{length_listed, listed_agree, listed_at, listed_more}
@@ -13,64 +14,70 @@ use Rattle.chisel_search.specs.declared.tournament.Knot.{Knot}
 use Rattle.chisel_search.specs.declared.tournament.Tournament.{Tournament}
 use Rattle.chisel_search.specs.Logs.{numbers_from}
 use Rattle.chisel_search.specs.Search.{replaced}
-use Rattle.chisel_search.specs.Tournament.{part_at, knot_at, number_at, winner_at, entrant, entrant_of, best, IsNumber, due, due_by, open_below, open_by, numbers_in, parts_in, IsFamily, IsTree, IsOpen, IsShaped, IsJudgedBut, IsTournament, IsGrafted, IsGrown, HasAdded, KeepsTree, JudgesOne, Replaces, StandsAt}
-use Rattle.chisel_search.proofs.Grown.{each_open, grown_is, numbers_grown, parts_grown, tree_grown}
-use Rattle.chisel_search.proofs.Winners.{entrants, best_gathered, best_is_entrant, entrant_kept, found_again, is_entrant, number_append, number_inside_parts, number_listed, number_of, number_one, number_set, number_weaker, IsEntrant}
+use Rattle.chisel_search.specs.Tournament.{knot_at, value_of, number_at, winner_at, entrant, entrant_of, best, IsNumber, due, due_by, open_below, open_by, numbers_in, IsFamily, IsTree, IsOpen, IsShaped, IsJudgedBut, IsTournament, IsGrafted, IsGrown, HasAdded, KeepsTree, JudgesOne, Replaces, StandsAt}
+use Rattle.chisel_search.proofs.Grown.{grown_is, numbers_grown, tree_grown}
+use Rattle.chisel_search.proofs.Winners.{entrants, best_gathered, best_is_entrant, entrant_kept, found_again, is_entrant, number_append, number_inside, number_listed, number_of, number_one, number_set, number_weaker, IsEntrant}
+
+abbrev value : Part → ℤ
+value p = p.value
+
+abbrev pub values_of : List Part → List ℤ
+values_of ps = map (λ p. p.value) ps
 
 -- ---- the winners are the first of the least value
 
 pub wins : (t : Tournament) → IsTournament t → (deep n : ℕ) → n < length t.knots.items → length t.knots.items ≤ deep + n →
-    winner_at t n ≡ best (entrants t.parts.items (open_below t.knots.items deep n))
+    winner_at t n ≡ best (entrants t.values.items (open_below t.knots.items deep n))
 unfolding open_below
 wins t h zero n l m = absurd (omega arith)
 wins t h (suc deep) n l m = h.judged n l ∙ go (knot_at t.knots.items n).family refl (wins t h deep)
   where
     go : (f : Option Family) → (knot_at t.knots.items n).family ≡ f →
-        ((k : ℕ) → k < length t.knots.items → length t.knots.items ≤ deep + k → winner_at t k ≡ best (entrants t.parts.items (open_below t.knots.items deep k))) →
-        due_by t n f ≡ best (entrants t.parts.items (open_by n (λ k. open_below t.knots.items deep k) f))
+        ((k : ℕ) → k < length t.knots.items → length t.knots.items ≤ deep + k → winner_at t k ≡ best (entrants t.values.items (open_below t.knots.items deep k))) →
+        due_by t n f ≡ best (entrants t.values.items (open_by n (λ k. open_below t.knots.items deep k) f))
     go None e rest = refl
     go (Some f) e rest =
         let w = h.shaped.tree.families n f l e in
-        best_gathered t.parts.items f.count (λ o. open_below t.knots.items deep (f.first + o)) (λ o. winner_at t (f.first + o))
+        best_gathered t.values.items f.count (λ o. open_below t.knots.items deep (f.first + o)) (λ o. winner_at t (f.first + o))
         (λ o u. let a = w.above in let b = w.inside in rest (f.first + o) (omega arith) (omega arith))
 
-pub winner_of_all : (t : Tournament) → IsTournament t → winner_at t 0 ≡ best (entrants t.parts.items (numbers_in t))
+pub winner_of_all : (t : Tournament) → IsTournament t → winner_at t 0 ≡ best (entrants t.values.items (numbers_in t))
 winner_of_all t h = wins t h (length t.knots.items) 0 h.shaped.tree.some (omega arith)
 
 -- ---- one is judged
 
-due_is_entrant : (t : Tournament) (n : ℕ) → IsShaped t → n < length t.knots.items → IsEntrant t.parts.items (due t n)
+due_is_entrant : (t : Tournament) (n : ℕ) → IsShaped t → n < length t.knots.items → IsEntrant t.values.items (due t n)
 due_is_entrant t n h l = go (knot_at t.knots.items n).family
   where
-    go : (f : Option Family) → IsEntrant t.parts.items (due_by t n f)
-    go None = (let a = h.parts in omega arith, refl)
-    go (Some f) = best_is_entrant t.parts.items f.count (λ o. winner_at t (f.first + o)) (λ o u. is_entrant t.parts.items (number_at t.winners.items (f.first + o)) (h.numbers.inside (f.first + o)))
+    go : (f : Option Family) → IsEntrant t.values.items (due_by t n f)
+    go None = (let a = h.values in omega arith, refl)
+    go (Some f) = best_is_entrant t.values.items f.count (λ o. winner_at t (f.first + o)) (λ o u. is_entrant t.values.items (number_at t.winners.items (f.first + o)) (h.numbers.inside (f.first + o)))
 
-pub judges_one : (old new : Tournament) (n : ℕ) → IsShaped old → n < length old.knots.items → new.parts ≡ old.parts →
+pub judges_one : (old new : Tournament) (n : ℕ) → IsShaped old → n < length old.knots.items → new.values ≡ old.values →
     new.winners.items ≡ slice_set old.winners.items n (number_of (due old n)) → JudgesOne old n new
-judges_one old new n h l parts winners =
+judges_one old new n h l values winners =
     let w = number_of (due old n) in
     let e = due_is_entrant old n h l in
     let inside : n < length old.winners.items = let a = h.winners in omega arith in
     record {
       one =
-          (λ i. entrant_of (parts i).items (number_at (winners i) n))
-          ∙ ap (entrant_of old.parts.items) (get_or-set_same old.winners.items n w None inside)
-          ∙ found_again old.parts.items (due old n) e;
+          (λ i. entrant_of (values i).items (number_at (winners i) n))
+          ∙ ap (entrant_of old.values.items) (get_or-set_same old.winners.items n w None inside)
+          ∙ found_again old.values.items (due old n) e;
       others = λ k ne.
-          (λ i. entrant_of (parts i).items (number_at (winners i) k))
-          ∙ ap (entrant_of old.parts.items) (get_or-set_other old.winners.items n k w None ne);
+          (λ i. entrant_of (values i).items (number_at (winners i) k))
+          ∙ ap (entrant_of old.values.items) (get_or-set_other old.winners.items n k w None ne);
       numbers = record {
         inside = λ k.
-            subst (λ ps. IsNumber (length ps.items) (number_at new.winners.items k)) (sym parts)
-            (subst (λ ws. IsNumber (length old.parts.items) (number_at ws k)) (sym winners)
-            (number_set (length old.parts.items) old.winners.items n w inside h.numbers.inside (number_inside_parts old.parts.items (due old n) e) k));
+            subst (λ vs. IsNumber (length vs.items) (number_at new.winners.items k)) (sym values)
+            (subst (λ ws. IsNumber (length old.values.items) (number_at ws k)) (sym winners)
+            (number_set (length old.values.items) old.winners.items n w inside h.numbers.inside (number_inside old.values.items (due old n) e) k));
       };
     }
 
 -- what a part should know is the same, where it has the same children with the same winners
 due_same : (old new : Tournament) (n : ℕ) → (knot_at new.knots.items n).family ≡ (knot_at old.knots.items n).family →
-    entrant new.parts.items n ≡ entrant old.parts.items n →
+    entrant new.values.items n ≡ entrant old.values.items n →
     ((f : Family) → (knot_at old.knots.items n).family ≡ Some f → (o : ℕ) → o < f.count → winner_at new (f.first + o) ≡ winner_at old (f.first + o)) →
     due new n ≡ due old n
 due_same old new n family part winners =
@@ -85,7 +92,7 @@ module _ (old new : Tournament) (n : ℕ) (shaped : IsShaped old) (keeps : Keeps
   pub still_shaped : IsShaped new
   still_shaped = record {
     tree = subst (λ ks. IsTree ks.items) (sym keeps.knots) shaped.tree;
-    parts = (λ i. length (keeps.parts i).items) ∙ shaped.parts ∙ (λ i. length (sym keeps.knots i).items);
+    values = (λ i. length (keeps.values i).items) ∙ shaped.values ∙ (λ i. length (sym keeps.knots i).items);
     winners = keeps.winners ∙ shaped.winners ∙ (λ i. length (sym keeps.knots i).items);
     numbers = one.numbers;
   }
@@ -94,7 +101,7 @@ module _ (old new : Tournament) (n : ℕ) (shaped : IsShaped old) (keeps : Keeps
   still_judged : (k : ℕ) → k < length old.knots.items → (0 < n → k ≢ (knot_at old.knots.items n).parent) → (k ≢ n → winner_at old k ≡ due old k) →
       winner_at new k ≡ due new k
   still_judged k l above judged =
-      let same = due_same old new k (ap (λ ks. (knot_at ks.items k).family) keeps.knots) (ap (λ ps. entrant ps.items k) keeps.parts)
+      let same = due_same old new k (ap (λ ks. (knot_at ks.items k).family) keeps.knots) (ap (λ vs. entrant vs.items k) keeps.values)
       (λ f e o u. let w = shaped.tree.families k f l e in
       one.others (f.first + o) (λ q. let a = w.above in let b = w.inside in
       above (omega arith) (sym (w.children o u) ∙ ap (λ z. (knot_at old.knots.items z).parent) q))) in
@@ -122,17 +129,17 @@ module _ (old new : Tournament) (n : ℕ) (children : List Part) (h : IsTourname
   pub grafted_shape : IsShaped new
   grafted_shape = record {
     tree = tree_grown old.knots.items new.knots.items n (length children) h.shaped.tree at g.knots;
-    parts = ap length g.parts ∙ (let a = length-append old.parts.items children in let b = h.shaped.parts in let c = g.knots.size in omega arith);
+    values = ap length g.values ∙ (let a = length-append old.values.items (values_of children) in let s = length-map children value in let b = h.shaped.values in let c = g.knots.size in omega arith);
     winners = g.winners;
     numbers = g.numbers;
   }
 
   old_judged : (k : ℕ) → k < length old.knots.items → k ≢ n → winner_at new k ≡ due new k
   old_judged k l ne =
-      let inside : k < length old.parts.items = let a = h.shaped.parts in omega arith in
+      let inside : k < length old.values.items = let a = h.shaped.values in omega arith in
       g.kept k l ∙ h.judged k l
       ∙ sym (due_same old new k (ap (λ (x : Knot). x.family) (g.knots.others k l ne))
-      (ap (λ ps. entrant ps k) g.parts ∙ ap (λ (p : Part). record { number = k; value = p.value }) (get_or_append_left old.parts.items children (part_at [] 0) k inside))
+      (ap (λ vs. entrant vs k) g.values ∙ ap (λ v. record { number = k; value = v }) (get_or_append_left old.values.items (values_of children) (pos 0) k inside))
       (λ f e o u. let w = h.shaped.tree.families k f l e in g.kept (f.first + o) (let a = w.inside in omega arith)))
 
   new_judged : (k : ℕ) → length old.knots.items ≤ k → k < length new.knots.items → winner_at new k ≡ due new k
@@ -161,30 +168,24 @@ module _ (old new : Tournament) (n : ℕ) (children : List Part) (h : IsTourname
       record {
         size = size;
         numbers = numbers;
-        parts = λ k s.
-            (λ i. map (part_at (keeps.parts i).items) (numbers k s i))
-            ∙ ap (λ ps. map (part_at ps) (replaced (numbers_in old) k (numbers_from (length old.knots.items) (length children)))) g.parts
-            ∙ parts_grown old.knots.items old.parts.items children (numbers_in old) k h.shaped.parts (each_open old.knots.items tree (length old.knots.items) 0 tree.some);
+        values = ap (λ vs. vs.items) keeps.values ∙ g.values;
       }
 
 -- ---- one part alone
 
-module _ (none t : Tournament) (p : Part) (a : HasAdded none p 0 t) (no_parts : none.parts.items ≡ []) (no_knots : none.knots.items ≡ []) (no_winners : none.winners.items ≡ []) where
-  parts : t.parts.items ≡ p ∷ []
-  parts = a.parts ∙ ap (λ l. l ++ p ∷ []) no_parts
+module _ (none t : Tournament) (v : ℤ) (a : HasAdded none v 0 t) (no_values : none.values.items ≡ []) (no_knots : none.knots.items ≡ []) (no_winners : none.winners.items ≡ []) where
+  pub first_values : t.values.items ≡ v ∷ []
+  first_values = a.values ∙ ap (λ l. l ++ v ∷ []) no_values
 
   knots : t.knots.items ≡ record { parent = 0; family = None } ∷ []
   knots = a.knots ∙ ap (λ l. l ++ record { parent = 0; family = None } ∷ []) no_knots
 
   winners : t.winners.items ≡ Some 0 ∷ []
-  winners = a.winners ∙ (λ i. no_winners i ++ Some (length (no_parts i)) ∷ [])
+  winners = a.winners ∙ (λ i. no_winners i ++ Some (length (no_values i)) ∷ [])
 
   pub first_numbers : numbers_in t ≡ 0 ∷ []
   unfolding open_below
   first_numbers = ap (λ ks. open_below ks (length ks) 0) knots
-
-  pub first_parts : parts_in t ≡ p ∷ []
-  first_parts = λ i. map (part_at (parts i)) (first_numbers i)
 
   no_family : (n : ℕ) (f : Family) → n ≡ 0 → (knot_at t.knots.items n).family ≡ Some f → IsFamily t.knots.items n f
   no_family n f z e =
@@ -193,7 +194,7 @@ module _ (none t : Tournament) (p : Part) (a : HasAdded none p 0 t) (no_parts : 
   pub first_tournament : IsTournament t
   first_tournament =
       let a = ap length knots in
-      let b = ap length parts in
+      let b = ap length first_values in
       let c = ap length winners in
       record {
         shaped = record {
@@ -202,42 +203,43 @@ module _ (none t : Tournament) (p : Part) (a : HasAdded none p 0 t) (no_parts : 
             parents = λ n l z. absurd (omega arith);
             families = λ n f l e. no_family n f (omega arith) e;
           };
-          parts = omega arith;
+          values = omega arith;
           winners = omega arith;
           numbers = record {
-            inside = λ k. subst (λ ws. IsNumber (length t.parts.items) (number_at ws k)) (sym winners) (number_one (length t.parts.items) 0 (omega arith) k);
+            inside = λ k. subst (λ ws. IsNumber (length t.values.items) (number_at ws k)) (sym winners) (number_one (length t.values.items) 0 (omega arith) k);
           };
         };
         judged = λ k l.
             let z : k ≡ 0 = omega arith in
             subst (λ j. winner_at t j ≡ due t j) (sym z)
-            (ap (λ ws. entrant_of t.parts.items (number_at ws 0)) winners ∙ sym (ap (λ ks. due_by t 0 (knot_at ks 0).family) knots));
+            (ap (λ ws. entrant_of t.values.items (number_at ws 0)) winners ∙ sym (ap (λ ks. due_by t 0 (knot_at ks 0).family) knots));
       }
 
 -- ---- some children are added
 
 pub record HasFresh (old : Tournament) (n : ℕ) (children : List Part) (o : ℕ) (new : Tournament) : Type 0 where
-  pub parts : new.parts.items ≡ old.parts.items ++ take o children
+  pub values : new.values.items ≡ old.values.items ++ take o (values_of children)
   pub knots : new.knots.items ≡ old.knots.items ++ list_to o (λ k. record { parent = n; family = None })
-  pub winners : new.winners.items ≡ old.winners.items ++ list_to o (λ k. Some (length old.parts.items + k))
+  pub winners : new.winners.items ≡ old.winners.items ++ list_to o (λ k. Some (length old.values.items + k))
 
 pub fresh_none : (t : Tournament) (n : ℕ) (children : List Part) → HasFresh t n children 0 t
 unfolding list_to
 fresh_none t n children = record {
-  parts = sym (append-nil t.parts.items);
+  values = sym (append-nil t.values.items);
   knots = sym (append-nil t.knots.items);
   winners = sym (append-nil t.winners.items);
 }
 
 pub fresh_more : (old : Tournament) (n : ℕ) (children : List Part) (o : ℕ) (t new : Tournament) → o < length children → HasFresh old n children o t →
-    HasAdded t (part_at children o) n new → HasFresh old n children (o + 1) new
+    HasAdded t (value_of (values_of children) o) n new → HasFresh old n children (o + 1) new
 fresh_more old n children o t new l h a =
-    let size : length t.parts.items ≡ length old.parts.items + o =
-    ap length h.parts ∙ length-append old.parts.items (take o children) ∙ ap (λ k. length old.parts.items + k) (length-take-le o children (omega arith)) in
+    let count = length-map children value in
+    let size : length t.values.items ≡ length old.values.items + o =
+    ap length h.values ∙ length-append old.values.items (take o (values_of children)) ∙ ap (λ k. length old.values.items + k) (length-take-le o (values_of children) (omega arith)) in
     record {
-      parts =
-          a.parts ∙ ap (λ l. l ++ part_at children o ∷ []) h.parts ∙ append_assoc old.parts.items (take o children) (part_at children o ∷ [])
-          ∙ ap (λ l. old.parts.items ++ l) (sym (take_more children o (part_at [] 0) l));
+      values =
+          a.values ∙ ap (λ l. l ++ value_of (values_of children) o ∷ []) h.values ∙ append_assoc old.values.items (take o (values_of children)) (value_of (values_of children) o ∷ [])
+          ∙ ap (λ l. old.values.items ++ l) (sym (take_more (values_of children) o (pos 0) (omega arith)));
       knots =
           a.knots ∙ ap (λ l. l ++ record { parent = n; family = None } ∷ []) h.knots
           ∙ append_assoc old.knots.items (list_to o (λ k. record { parent = n; family = None })) (record { parent = n; family = None } ∷ [])
@@ -245,48 +247,50 @@ fresh_more old n children o t new l h a =
       winners =
           a.winners
           ∙ (λ i. h.winners i ++ Some (size i) ∷ [])
-          ∙ append_assoc old.winners.items (list_to o (λ k. Some (length old.parts.items + k))) (Some (length old.parts.items + o) ∷ [])
-          ∙ ap (λ l. old.winners.items ++ l) (sym (listed_more o (λ k. Some (length old.parts.items + k))));
+          ∙ append_assoc old.winners.items (list_to o (λ k. Some (length old.values.items + k))) (Some (length old.values.items + o) ∷ [])
+          ∙ ap (λ l. old.winners.items ++ l) (sym (listed_more o (λ k. Some (length old.values.items + k))));
     }
 
 pub grafted : (old : Tournament) (n : ℕ) (children : List Part) (t new : Tournament) → IsShaped old → n < length old.knots.items →
-    HasFresh old n children (length children) t → new.parts.items ≡ t.parts.items → new.winners.items ≡ t.winners.items →
-    new.knots.items ≡ slice_set t.knots.items n (record { parent = (knot_at t.knots.items n).parent; family = Some (record { first = length old.parts.items; count = length children }) }) →
+    HasFresh old n children (length children) t → new.values.items ≡ t.values.items → new.winners.items ≡ t.winners.items →
+    new.knots.items ≡ slice_set t.knots.items n (record { parent = (knot_at t.knots.items n).parent; family = Some (record { first = length old.values.items; count = length children }) }) →
     IsGrafted old n children new
-grafted old n children t new shaped l h parts winners knots =
+grafted old n children t new shaped l h values winners knots =
     let c = length children in
-    let winner : ℕ → Option ℕ = λ k. Some (length old.parts.items + k) in
+    let winner : ℕ → Option ℕ = λ k. Some (length old.values.items + k) in
     let fresh : List Knot = list_to c (λ k. record { parent = n; family = None }) in
     let parent : (knot_at t.knots.items n).parent ≡ (knot_at old.knots.items n).parent =
     ap (λ ks. (knot_at ks n).parent) h.knots ∙ ap (λ (k : Knot). k.parent) (get_or_append_left old.knots.items fresh (knot_at [] 0) n l) in
     let grown : IsGrown old.knots.items n c new.knots.items =
     grown_is old.knots.items new.knots.items n c l
-    (knots ∙ (λ i. slice_set (h.knots i) n (record { parent = parent i; family = Some (record { first = shaped.parts i; count = c }) }))) in
-    let all_parts : new.parts.items ≡ old.parts.items ++ children = parts ∙ h.parts ∙ ap (λ l. old.parts.items ++ l) (take-length children) in
+    (knots ∙ (λ i. slice_set (h.knots i) n (record { parent = parent i; family = Some (record { first = shaped.values i; count = c }) }))) in
+    let count = length-map children value in
+    let all_values : new.values.items ≡ old.values.items ++ values_of children =
+    values ∙ h.values ∙ ap (λ l. old.values.items ++ l) (ap (λ k. take k (values_of children)) (sym count) ∙ take-length (values_of children)) in
     let all_winners : new.winners.items ≡ old.winners.items ++ list_to c winner = winners ∙ h.winners in
-    let parts_size : length new.parts.items ≡ length old.parts.items + c = ap length all_parts ∙ length-append old.parts.items children in
+    let values_size : length new.values.items ≡ length old.values.items + c = ap length all_values ∙ length-append old.values.items (values_of children) ∙ ap (λ k. length old.values.items + k) count in
     record {
       knots = grown;
-      parts = all_parts;
+      values = all_values;
       winners =
           ap length all_winners ∙ length-append old.winners.items (list_to c winner)
           ∙ (let a = length_listed c winner in let b = shaped.winners in let e = grown.size in omega arith);
       numbers = record {
         inside = λ k.
-            subst (λ ws. IsNumber (length new.parts.items) (number_at ws k)) (sym all_winners)
-            (number_append (length new.parts.items) old.winners.items (list_to c winner)
-            (λ j. number_weaker (length old.parts.items) (length new.parts.items) (number_at old.winners.items j) (omega arith) (shaped.numbers.inside j))
-            (number_listed (length new.parts.items) c (λ k. length old.parts.items + k) (λ o m. omega arith)) k);
+            subst (λ ws. IsNumber (length new.values.items) (number_at ws k)) (sym all_winners)
+            (number_append (length new.values.items) old.winners.items (list_to c winner)
+            (λ j. number_weaker (length old.values.items) (length new.values.items) (number_at old.winners.items j) (omega arith) (shaped.numbers.inside j))
+            (number_listed (length new.values.items) c (λ k. length old.values.items + k) (λ o m. omega arith)) k);
       };
       kept = λ k m.
-          (λ i. entrant_of (all_parts i) (number_at (all_winners i) k))
-          ∙ ap (entrant_of (old.parts.items ++ children)) (get_or_append_left old.winners.items (list_to c winner) None k (let b = shaped.winners in omega arith))
-          ∙ entrant_kept old.parts.items children (number_at old.winners.items k) (shaped.numbers.inside k);
+          (λ i. entrant_of (all_values i) (number_at (all_winners i) k))
+          ∙ ap (entrant_of (old.values.items ++ values_of children)) (get_or_append_left old.winners.items (list_to c winner) None k (let b = shaped.winners in omega arith))
+          ∙ entrant_kept old.values.items (values_of children) (number_at old.winners.items k) (shaped.numbers.inside k);
       fresh = λ o m.
-          ap (entrant_of new.parts.items)
+          ap (entrant_of new.values.items)
           (ap (λ ws. number_at ws (length old.knots.items + o)) all_winners
           ∙ ap (λ k. number_at (old.winners.items ++ list_to c winner) (k + o)) (sym shaped.winners)
           ∙ get_or-append-add old.winners.items (list_to c winner) o None
           ∙ listed_at c winner o None m
-          ∙ (λ i. Some (shaped.parts i + o)));
+          ∙ (λ i. Some (shaped.values i + o)));
     }

@@ -1,18 +1,17 @@
 -- The open parts of a tree that grows.
 use Rattle.std.proofs.Common.{◌≡◌, ◌≢◌, true, ℕ, zero, suc, ◌+◌, ◌≤◌, ◌<◌, ◌==◌, List, [], ◌∷◌, ◌++◌, length, map, refl, sym, ap, subst, ◌∙◌, arith, append_assoc, length-append, ◌-◌, Option, Some, None}
-use Rattle.std.specs.Prelude.{slice_index, slice_set, nat_lt, if◌then◌else◌}
+use Rattle.std.specs.Prelude.{slice_index, slice_index_or, slice_set, nat_lt, if◌then◌else◌}
 use Rattle.std.proofs.lemmas.Bool.{eqb-true, ltb-true, ltb-false}
 use Rattle.std.proofs.lemmas.List.{append-nil, map-append, get_or_append_left, get_or-append-add, get_or-set_same, get_or-set_other}
 use Rattle.std.proofs.Math.ListN.{length-set}
 use Rattle.chisel_table.specs.Sums.{list_to}
 use Rattle.chisel_table.proofs.Sums.{by_test, differ}
 use Rattle.chisel_bound.proofs.Lists.{length_listed, listed_same, listed_at}
-use Rattle.chisel_search.specs.declared.part.Part.{Part}
 use Rattle.chisel_search.specs.declared.tournament.Family.{Family}
 use Rattle.chisel_search.specs.declared.tournament.Knot.{Knot}
 use Rattle.chisel_search.specs.Logs.{numbers_from}
 use Rattle.chisel_search.specs.Search.{replaced}
-use Rattle.chisel_search.specs.Tournament.{part_at, knot_at, gathered, open_below, open_by, IsFamily, IsTree, IsOpen, IsGrown, StandsAt}
+use Rattle.chisel_search.specs.Tournament.{knot_at, gathered, open_below, open_by, IsFamily, IsTree, IsOpen, IsGrown, StandsAt}
 use Rattle.chisel_search.proofs.Lists.{EachOf, each_append, map_replaced}
 
 -- ---- one behind the other
@@ -218,17 +217,16 @@ map_each : {A : Type 0} (f g : ℕ → A) (P : ℕ → Type 0) (ns : List ℕ) �
 map_each f g P [] h e = refl
 map_each f g P (n ∷ ns) h e = λ i. h n e.0 i ∷ map_each f g P ns h e.1 i
 
--- the parts of the list that grew are the old ones with the children in the place of one
-pub parts_grown : (ks : List Knot) (ps children : List Part) (ns : List ℕ) (k : ℕ) → length ps ≡ length ks → EachOf (IsOpen ks) ns →
-    map (part_at (ps ++ children)) (replaced ns k (numbers_from (length ks) (length children))) ≡ replaced (map (part_at ps) ns) k children
-parts_grown ks ps children ns k size each =
-    let none = part_at [] 0 in
-    let old = map_each (part_at (ps ++ children)) (part_at ps) (IsOpen ks) ns (λ n o. get_or_append_left ps children none n (let i = o.inside in omega arith)) each in
-    let new : map (part_at (ps ++ children)) (numbers_from (length ks) (length children)) ≡ children =
-    map_listed (part_at (ps ++ children)) (length children) (λ o. length ks + o)
-    ∙ sym (listed_same none (length children) (λ o. part_at (ps ++ children) (length ks + o)) children refl
-    (λ o l. sym (ap (λ n. part_at (ps ++ children) (n + o)) (sym size) ∙ get_or-append-add ps children o none))) in
-    map_replaced (part_at (ps ++ children)) ns k (numbers_from (length ks) (length children)) ∙ (λ i. replaced (old i) k (new i))
+-- what f says of the numbers of the list that grew: what it said, and of the children what the list says that stands in the place of one
+pub told_grown : {A : Type 0} (f g : ℕ → A) (none : A) (size : ℕ) (children : List A) (ns : List ℕ) (k : ℕ) →
+    ((n : ℕ) → n < size → g n ≡ f n) → ((o : ℕ) → o < length children → g (size + o) ≡ slice_index_or children o none) →
+    EachOf (λ n. n < size) ns → map g (replaced ns k (numbers_from size (length children))) ≡ replaced (map f ns) k children
+told_grown f g none size children ns k old new each =
+    let same = map_each g f (λ n. n < size) ns old each in
+    let added : map g (numbers_from size (length children)) ≡ children =
+    map_listed g (length children) (λ o. size + o)
+    ∙ sym (listed_same none (length children) (λ o. g (size + o)) children refl (λ o l. sym (new o l))) in
+    map_replaced g ns k (numbers_from size (length children)) ∙ (λ i. replaced (same i) k (added i))
 
 -- ---- the lists of a tree that grew
 

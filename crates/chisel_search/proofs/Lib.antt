@@ -13,4 +13,5 @@ pub mod Finding
 pub mod Winners
 pub mod Grown
 pub mod Climbing
+pub mod Origins
 pub mod BestFirst

@@ -11,7 +11,7 @@ use Rattle.chisel_table.proofs.Sums.{by_test, differ, int_below, int_above, is_i
 use Rattle.chisel_search.specs.declared.part.Part.{Part}
 use Rattle.chisel_search.specs.declared.tournament.Entrant.{Entrant}
 use Rattle.chisel_search.specs.Rules.{IsFirstLeast, value_at}
-use Rattle.chisel_search.specs.Tournament.{part_at, number_at, entrant, entrant_of, better, best, gathered, IsNumber}
+use Rattle.chisel_search.specs.Tournament.{value_of, number_at, entrant, entrant_of, better, best, gathered, IsNumber}
 
 -- ---- the better of two
 
@@ -57,41 +57,41 @@ number_of None = None
 number_of (Some x) = Some x.number
 
 -- a part with its own value, where there is one
-abbrev pub IsEntrant : List Part → Option Entrant → Type 0
-IsEntrant ps None = Unit {0}
-IsEntrant ps (Some e) = e.number < length ps × entrant ps e.number ≡ e
+abbrev pub IsEntrant : List ℤ → Option Entrant → Type 0
+IsEntrant vs None = Unit {0}
+IsEntrant vs (Some e) = e.number < length vs × entrant vs e.number ≡ e
 
-pub is_entrant : (ps : List Part) (w : Option ℕ) → IsNumber (length ps) w → IsEntrant ps (entrant_of ps w)
-is_entrant ps None h = tt
-is_entrant ps (Some n) h = (h, refl)
+pub is_entrant : (vs : List ℤ) (w : Option ℕ) → IsNumber (length vs) w → IsEntrant vs (entrant_of vs w)
+is_entrant vs None h = tt
+is_entrant vs (Some n) h = (h, refl)
 
-better_is_entrant : (ps : List Part) (x y : Option Entrant) → IsEntrant ps x → IsEntrant ps y → IsEntrant ps (better x y)
-better_is_entrant ps None y h k = k
-better_is_entrant ps (Some x) None h k = h
-better_is_entrant ps (Some x) (Some y) h k =
+better_is_entrant : (vs : List ℤ) (x y : Option Entrant) → IsEntrant vs x → IsEntrant vs y → IsEntrant vs (better x y)
+better_is_entrant vs None y h k = k
+better_is_entrant vs (Some x) None h k = h
+better_is_entrant vs (Some x) (Some y) h k =
     by_test (int_lt y.value x.value)
-    (λ e. subst (IsEntrant ps) (sym (takes_second x y e)) k)
-    (λ e. subst (IsEntrant ps) (sym (takes_first x y e)) h)
+    (λ e. subst (IsEntrant vs) (sym (takes_second x y e)) k)
+    (λ e. subst (IsEntrant vs) (sym (takes_first x y e)) h)
 
-pub best_is_entrant : (ps : List Part) (n : ℕ) (w : ℕ → Option Entrant) → ((o : ℕ) → o < n → IsEntrant ps (w o)) → IsEntrant ps (best (list_to n w))
+pub best_is_entrant : (vs : List ℤ) (n : ℕ) (w : ℕ → Option Entrant) → ((o : ℕ) → o < n → IsEntrant vs (w o)) → IsEntrant vs (best (list_to n w))
 unfolding list_to
-best_is_entrant ps zero w h = tt
-best_is_entrant ps (suc n) w h =
-    subst (IsEntrant ps) (sym (best_push (list_to n w) (w n)))
-    (better_is_entrant ps (best (list_to n w)) (w n) (best_is_entrant ps n w (λ o l. h o (omega arith))) (h n (omega arith)))
+best_is_entrant vs zero w h = tt
+best_is_entrant vs (suc n) w h =
+    subst (IsEntrant vs) (sym (best_push (list_to n w) (w n)))
+    (better_is_entrant vs (best (list_to n w)) (w n) (best_is_entrant vs n w (λ o l. h o (omega arith))) (h n (omega arith)))
 
-pub number_inside_parts : (ps : List Part) (e : Option Entrant) → IsEntrant ps e → IsNumber (length ps) (number_of e)
-number_inside_parts ps None h = tt
-number_inside_parts ps (Some e) h = h.0
+pub number_inside : (vs : List ℤ) (e : Option Entrant) → IsEntrant vs e → IsNumber (length vs) (number_of e)
+number_inside vs None h = tt
+number_inside vs (Some e) h = h.0
 
-pub found_again : (ps : List Part) (e : Option Entrant) → IsEntrant ps e → entrant_of ps (number_of e) ≡ e
-found_again ps None h = refl
-found_again ps (Some e) h = ap (λ x. Some x) h.1
+pub found_again : (vs : List ℤ) (e : Option Entrant) → IsEntrant vs e → entrant_of vs (number_of e) ≡ e
+found_again vs None h = refl
+found_again vs (Some e) h = ap (λ x. Some x) h.1
 
 -- parts that are added change no entrant
-pub entrant_kept : (ps new : List Part) (w : Option ℕ) → IsNumber (length ps) w → entrant_of (ps ++ new) w ≡ entrant_of ps w
-entrant_kept ps new None h = refl
-entrant_kept ps new (Some n) h = ap (λ (p : Part). Some (record { number = n; value = p.value })) (get_or_append_left ps new (part_at [] 0) n h)
+pub entrant_kept : (vs new : List ℤ) (w : Option ℕ) → IsNumber (length vs) w → entrant_of (vs ++ new) w ≡ entrant_of vs w
+entrant_kept vs new None h = refl
+entrant_kept vs new (Some n) h = ap (λ v. Some (record { number = n; value = v })) (get_or_append_left vs new (pos 0) n h)
 
 -- ---- numbers of parts
 
@@ -124,106 +124,105 @@ number_set b ws n w l h g k =
 
 -- ---- of some numbers
 
-abbrev pub entrants : List Part → List ℕ → List (Option Entrant)
-entrants ps ns = map (λ n. Some (entrant ps n)) ns
+abbrev pub entrants : List ℤ → List ℕ → List (Option Entrant)
+entrants vs ns = map (λ n. Some (entrant vs n)) ns
 
-pub best_gathered : (ps : List Part) (n : ℕ) (f : ℕ → List ℕ) (w : ℕ → Option Entrant) → ((o : ℕ) → o < n → w o ≡ best (entrants ps (f o))) →
-    best (list_to n w) ≡ best (entrants ps (gathered n f))
+pub best_gathered : (vs : List ℤ) (n : ℕ) (f : ℕ → List ℕ) (w : ℕ → Option Entrant) → ((o : ℕ) → o < n → w o ≡ best (entrants vs (f o))) →
+    best (list_to n w) ≡ best (entrants vs (gathered n f))
 unfolding list_to
-best_gathered ps zero f w h = refl
-best_gathered ps (suc n) f w h =
+best_gathered vs zero f w h = refl
+best_gathered vs (suc n) f w h =
     best_push (list_to n w) (w n)
-    ∙ (λ i. better (best_gathered ps n f w (λ o l. h o (omega arith)) i) (h n (omega arith) i))
-    ∙ sym (best_append (entrants ps (gathered n f)) (entrants ps (f n)))
-    ∙ sym (ap best (map-append (λ n. Some (entrant ps n)) (gathered n f) (f n)))
+    ∙ (λ i. better (best_gathered vs n f w (λ o l. h o (omega arith)) i) (h n (omega arith) i))
+    ∙ sym (best_append (entrants vs (gathered n f)) (entrants vs (f n)))
+    ∙ sym (ap best (map-append (λ n. Some (entrant vs n)) (gathered n f) (f n)))
 
 -- ---- the first of the least value
 
-abbrev value_of : List Part → List ℕ → ℕ → ℤ
-value_of ps ns j = (part_at ps (slice_index ns j)).value
-
-pub record IsFirst (ps : List Part) (ns : List ℕ) (e : Entrant) (k : ℕ) : Type 0 where
+pub record IsFirst (vs : List ℤ) (ns : List ℕ) (e : Entrant) (k : ℕ) : Type 0 where
   pub inside : k < length ns
-  pub entrant_is : entrant ps (slice_index ns k) ≡ e
-  pub least : (j : ℕ) → j < length ns → e.value ≤ℤ (part_at ps (slice_index ns j)).value
-  pub first : (j : ℕ) → j < k → e.value <ℤ (part_at ps (slice_index ns j)).value
+  pub entrant_is : entrant vs (slice_index ns k) ≡ e
+  pub least : (j : ℕ) → j < length ns → e.value ≤ℤ value_of vs (slice_index ns j)
+  pub first : (j : ℕ) → j < k → e.value <ℤ value_of vs (slice_index ns j)
 
-none_wins : (ps : List Part) (ns : List ℕ) → best (entrants ps ns) ≡ None → ns ≡ []
-none_wins ps [] h = refl
-none_wins ps (n ∷ ns) h = go (best (entrants ps ns)) h
+none_wins : (vs : List ℤ) (ns : List ℕ) → best (entrants vs ns) ≡ None → ns ≡ []
+none_wins vs [] h = refl
+none_wins vs (n ∷ ns) h = go (best (entrants vs ns)) h
   where
-    go : (r : Option Entrant) → better (Some (entrant ps n)) r ≡ None → n ∷ ns ≡ []
+    go : (r : Option Entrant) → better (Some (entrant vs n)) r ≡ None → n ∷ ns ≡ []
     go None e = absurd (let q = e in cc)
-    go (Some y) e = by_test (int_lt y.value (entrant ps n).value)
+    go (Some y) e = by_test (int_lt y.value (entrant vs n).value)
         (λ t. absurd (let q : ◌≡◌ {A = Option Entrant} (Some y) None = rw t at e in cc))
-        (λ t. absurd (let q : ◌≡◌ {A = Option Entrant} (Some (entrant ps n)) None = rw t at e in cc))
+        (λ t. absurd (let q : ◌≡◌ {A = Option Entrant} (Some (entrant vs n)) None = rw t at e in cc))
 
-pub no_winner : (ps : List Part) (ns : List ℕ) → best (entrants ps ns) ≡ None → length ns ≡ 0
-no_winner ps ns h = ap length (none_wins ps ns h)
+pub no_winner : (vs : List ℤ) (ns : List ℕ) → best (entrants vs ns) ≡ None → length ns ≡ 0
+no_winner vs ns h = ap length (none_wins vs ns h)
 
-alone : (ps : List Part) (n : ℕ) (e : Entrant) → entrant ps n ≡ e → IsFirst ps (n ∷ []) e 0
-alone ps n e q = record {
+alone : (vs : List ℤ) (n : ℕ) (e : Entrant) → entrant vs n ≡ e → IsFirst vs (n ∷ []) e 0
+alone vs n e q = record {
   inside = omega arith;
   entrant_is = q;
   least = λ j l. let z : j ≡ 0 = omega arith in let v = ap (λ x. x.value) q in rw z (grind (arith, ints));
   first = λ j l. absurd (omega arith);
 }
 
-later : (ps : List Part) (n : ℕ) (ns : List ℕ) (e : Entrant) (k : ℕ) → IsFirst ps ns e k → e.value <ℤ (part_at ps n).value → IsFirst ps (n ∷ ns) e (suc k)
-later ps n ns e k h l = record {
+later : (vs : List ℤ) (n : ℕ) (ns : List ℕ) (e : Entrant) (k : ℕ) → IsFirst vs ns e k → e.value <ℤ value_of vs n → IsFirst vs (n ∷ ns) e (suc k)
+later vs n ns e k h l = record {
   inside = let i = h.inside in omega arith;
   entrant_is = h.entrant_is;
   least = λ j m. least_at j m;
   first = λ j m. first_at j m;
 }
   where
-    least_at : (j : ℕ) → j < length (n ∷ ns) → e.value ≤ℤ (part_at ps (slice_index (n ∷ ns) j)).value
+    least_at : (j : ℕ) → j < length (n ∷ ns) → e.value ≤ℤ value_of vs (slice_index (n ∷ ns) j)
     least_at zero m = grind (arith, ints)
     least_at (suc j) m = h.least j (omega arith)
 
-    first_at : (j : ℕ) → j < suc k → e.value <ℤ (part_at ps (slice_index (n ∷ ns) j)).value
+    first_at : (j : ℕ) → j < suc k → e.value <ℤ value_of vs (slice_index (n ∷ ns) j)
     first_at zero m = l
     first_at (suc j) m = h.first j (omega arith)
 
-sooner : (ps : List Part) (n : ℕ) (ns : List ℕ) (e : Entrant) (k : ℕ) → IsFirst ps ns e k → (part_at ps n).value ≤ℤ e.value → IsFirst ps (n ∷ ns) (entrant ps n) 0
-sooner ps n ns e k h l = record {
+sooner : (vs : List ℤ) (n : ℕ) (ns : List ℕ) (e : Entrant) (k : ℕ) → IsFirst vs ns e k → value_of vs n ≤ℤ e.value → IsFirst vs (n ∷ ns) (entrant vs n) 0
+sooner vs n ns e k h l = record {
   inside = omega arith;
   entrant_is = refl;
   least = λ j m. least_at j m;
   first = λ j m. absurd (omega arith);
 }
   where
-    least_at : (j : ℕ) → j < length (n ∷ ns) → (part_at ps n).value ≤ℤ (part_at ps (slice_index (n ∷ ns) j)).value
+    least_at : (j : ℕ) → j < length (n ∷ ns) → value_of vs n ≤ℤ value_of vs (slice_index (n ∷ ns) j)
     least_at zero m = grind (arith, ints)
     least_at (suc j) m = let a = h.least j (omega arith) in grind (arith, ints)
 
-pub first_of : (ps : List Part) (ns : List ℕ) (e : Entrant) → best (entrants ps ns) ≡ Some e → (k : ℕ) × IsFirst ps ns e k
-first_of ps [] e h = absurd (let q = h in cc)
-first_of ps (n ∷ ns) e h = go (best (entrants ps ns)) refl h (first_of ps ns)
+pub first_of : (vs : List ℤ) (ns : List ℕ) (e : Entrant) → best (entrants vs ns) ≡ Some e → (k : ℕ) × IsFirst vs ns e k
+first_of vs [] e h = absurd (let q = h in cc)
+first_of vs (n ∷ ns) e h = go (best (entrants vs ns)) refl h (first_of vs ns)
   where
-    go : (r : Option Entrant) → best (entrants ps ns) ≡ r → better (Some (entrant ps n)) r ≡ Some e
-        → ((y : Entrant) → best (entrants ps ns) ≡ Some y → (k : ℕ) × IsFirst ps ns y k) → (k : ℕ) × IsFirst ps (n ∷ ns) e k
+    go : (r : Option Entrant) → best (entrants vs ns) ≡ r → better (Some (entrant vs n)) r ≡ Some e
+        → ((y : Entrant) → best (entrants vs ns) ≡ Some y → (k : ℕ) × IsFirst vs ns y k) → (k : ℕ) × IsFirst vs (n ∷ ns) e k
     go None q w later_ones =
-        let v : entrant ps n ≡ e = cc in
-        (0, subst (λ l. IsFirst ps (n ∷ l) e 0) (sym (none_wins ps ns q)) (alone ps n e v))
+        let v : entrant vs n ≡ e = cc in
+        (0, subst (λ l. IsFirst vs (n ∷ l) e 0) (sym (none_wins vs ns q)) (alone vs n e v))
     go (Some y) q w later_ones =
         let i = later_ones y q in
-        by_test (int_lt y.value (entrant ps n).value)
+        by_test (int_lt y.value (entrant vs n).value)
         (λ t. let v : ◌≡◌ {A = Option Entrant} (Some y) (Some e) = rw t at w in
         let u : y ≡ e = cc in
-        (suc i.0, subst (λ x. IsFirst ps (n ∷ ns) x (suc i.0)) u (later ps n ns y i.0 i.1 (int_below y.value (entrant ps n).value t))))
-        (λ t. let v : ◌≡◌ {A = Option Entrant} (Some (entrant ps n)) (Some e) = rw t at w in
-        let u : entrant ps n ≡ e = cc in
-        (0, subst (λ x. IsFirst ps (n ∷ ns) x 0) u (sooner ps n ns y i.0 i.1 (int_above y.value (entrant ps n).value t))))
+        (suc i.0, subst (λ x. IsFirst vs (n ∷ ns) x (suc i.0)) u (later vs n ns y i.0 i.1 (int_below y.value (entrant vs n).value t))))
+        (λ t. let v : ◌≡◌ {A = Option Entrant} (Some (entrant vs n)) (Some e) = rw t at w in
+        let u : entrant vs n ≡ e = cc in
+        (0, subst (λ x. IsFirst vs (n ∷ ns) x 0) u (sooner vs n ns y i.0 i.1 (int_above y.value (entrant vs n).value t))))
 
--- the same told of the parts
-pub is_first_least : (ps : List Part) (ns : List ℕ) (e : Entrant) (k : ℕ) → IsFirst ps ns e k → IsFirstLeast (map (part_at ps) ns) k
-is_first_least ps ns e k h =
-    let size = length-map ns (part_at ps) in
-    let at : (j : ℕ) → j < length ns → value_at (map (part_at ps) ns) j ≡ (part_at ps (slice_index ns j)).value =
-    λ j l. get_or-map (λ p. p.value) (map (part_at ps) ns) j (part_at ps (slice_index ns j)) (pos 0) (omega arith)
-    ∙ ap (λ p. p.value) (get_or-map (part_at ps) ns j 0 (part_at ps (slice_index ns j)) l) in
-    let value_is : (part_at ps (slice_index ns k)).value ≡ e.value = ap (λ x. x.value) h.entrant_is in
+-- the same told of parts with these values
+pub is_first_least : (vs : List ℤ) (ns : List ℕ) (e : Entrant) (k : ℕ) (f : ℕ → Part) → ((n : ℕ) → (f n).value ≡ value_of vs n) → IsFirst vs ns e k →
+    IsFirstLeast (map f ns) k
+is_first_least vs ns e k f same h =
+    let size = length-map ns f in
+    let at : (j : ℕ) → j < length ns → value_at (map f ns) j ≡ value_of vs (slice_index ns j) =
+    λ j l. get_or-map (λ p. p.value) (map f ns) j (f (slice_index ns j)) (pos 0) (omega arith)
+    ∙ ap (λ p. p.value) (get_or-map f ns j 0 (f (slice_index ns j)) l)
+    ∙ same (slice_index ns j) in
+    let value_is : value_of vs (slice_index ns k) ≡ e.value = ap (λ x. x.value) h.entrant_is in
     record {
       inside = let i = h.inside in omega arith;
       least = λ j l. let a = h.least j (omega arith) in rw (at k h.inside, at j (omega arith), value_is) a;

@@ -6,5 +6,6 @@ pub mod Found
 pub mod Logs
 pub mod Machine
 pub mod Tournament
-pub mod BestFirst
 pub mod Fold
+pub mod Frontier
+pub mod BestFirst

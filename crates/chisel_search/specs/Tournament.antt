@@ -1,5 +1,5 @@
 -- The open parts of a search as a tournament over the tree of all its parts.
-use Rattle.std.specs.Prelude.{ℕ, zero, suc, ◌≡◌, ◌≢◌, ◌+◌, ◌<◌, ◌≤◌, List, [], ◌∷◌, ◌++◌, length, map, slice_index, slice_index_or, Option, Some, None, int_lt, pos, if◌then◌else◌}
+use Rattle.std.specs.Prelude.{ℕ, zero, suc, ◌≡◌, ◌≢◌, ◌+◌, ◌<◌, ◌≤◌, List, [], ◌∷◌, ◌++◌, length, map, slice_index, slice_index_or, Option, Some, None, int_lt, ℤ, pos, if◌then◌else◌}
 use Rattle.chisel_table.specs.Sums.{list_to}
 use Rattle.chisel_search.specs.declared.part.Part.{Part}
 use Rattle.chisel_search.specs.declared.tournament.Entrant.{Entrant}
@@ -11,8 +11,8 @@ use Rattle.chisel_search.specs.Search.{replaced}
 
 -- ---- by numbers
 
-abbrev pub part_at : List Part → ℕ → Part
-part_at ps n = slice_index_or ps n (record { partial = record { size = 0; slots = [] }; value = pos 0 })
+abbrev pub value_of : List ℤ → ℕ → ℤ
+value_of vs n = slice_index_or vs n (pos 0)
 
 abbrev pub knot_at : List Knot → ℕ → Knot
 knot_at ks n = slice_index_or ks n (record { parent = 0; family = Some (record { first = 0; count = 0 }) })
@@ -22,16 +22,16 @@ number_at ws n = slice_index_or ws n None
 
 -- ---- who wins
 
-abbrev pub entrant : List Part → ℕ → Entrant
-entrant ps n = record { number = n; value = (part_at ps n).value }
+abbrev pub entrant : List ℤ → ℕ → Entrant
+entrant vs n = record { number = n; value = value_of vs n }
 
-abbrev pub entrant_of : List Part → Option ℕ → Option Entrant
-entrant_of ps None = None
-entrant_of ps (Some n) = Some (entrant ps n)
+abbrev pub entrant_of : List ℤ → Option ℕ → Option Entrant
+entrant_of vs None = None
+entrant_of vs (Some n) = Some (entrant vs n)
 
 -- the winner that part n knows
 abbrev pub winner_at : Tournament → ℕ → Option Entrant
-winner_at t n = entrant_of t.parts.items (number_at t.winners.items n)
+winner_at t n = entrant_of t.values.items (number_at t.winners.items n)
 
 -- the second where its value is less, and else the first
 abbrev pub better : Option Entrant → Option Entrant → Option Entrant
@@ -46,7 +46,7 @@ best (x ∷ xs) = better x (best xs)
 
 -- who wins among a part and those below it: itself while it is open, and else the best of its children's winners
 abbrev pub due_by : Tournament → ℕ → Option Family → Option Entrant
-due_by t n None = Some (entrant t.parts.items n)
+due_by t n None = Some (entrant t.values.items n)
 due_by t n (Some f) = best (list_to f.count (λ o. winner_at t (f.first + o)))
 
 abbrev pub due : Tournament → ℕ → Option Entrant
@@ -68,12 +68,9 @@ unfoldable pub open_below : List Knot → ℕ → ℕ → List ℕ
 open_below ks zero n = []
 open_below ks (suc deep) n = open_by n (λ k. open_below ks deep k) (knot_at ks n).family
 
--- the numbers of the open parts, and these parts
+-- the numbers of the open parts
 abbrev pub numbers_in : Tournament → List ℕ
 numbers_in t = open_below t.knots.items (length t.knots.items) 0
-
-abbrev pub parts_in : Tournament → List Part
-parts_in t = map (part_at t.parts.items) (numbers_in t)
 
 -- ---- the tree
 
@@ -101,11 +98,11 @@ IsNumber size (Some n) = n < size
 
 -- the winners are parts
 pub record AreParts (t : Tournament) : Type 0 where
-  pub inside : (k : ℕ) → IsNumber (length t.parts.items) (number_at t.winners.items k)
+  pub inside : (k : ℕ) → IsNumber (length t.values.items) (number_at t.winners.items k)
 
 pub record IsShaped (t : Tournament) : Type 0 where
   pub tree : IsTree t.knots.items
-  pub parts : length t.parts.items ≡ length t.knots.items
+  pub values : length t.values.items ≡ length t.knots.items
   pub winners : length t.winners.items ≡ length t.knots.items
   pub numbers : AreParts t
 
@@ -123,13 +120,13 @@ winning_number t = number_at t.winners.items 0
 -- ---- what changes
 
 -- one open part more
-pub record HasAdded (old : Tournament) (part : Part) (parent : ℕ) (new : Tournament) : Type 0 where
-  pub parts : new.parts.items ≡ old.parts.items ++ part ∷ []
+pub record HasAdded (old : Tournament) (value : ℤ) (parent : ℕ) (new : Tournament) : Type 0 where
+  pub values : new.values.items ≡ old.values.items ++ value ∷ []
   pub knots : new.knots.items ≡ old.knots.items ++ record { parent = parent; family = None } ∷ []
-  pub winners : new.winners.items ≡ old.winners.items ++ Some (length old.parts.items) ∷ []
+  pub winners : new.winners.items ≡ old.winners.items ++ Some (length old.values.items) ∷ []
 
 pub record KeepsTree (old new : Tournament) : Type 0 where
-  pub parts : new.parts ≡ old.parts
+  pub values : new.values ≡ old.values
   pub knots : new.knots ≡ old.knots
   pub winners : length new.winners.items ≡ length old.winners.items
 
@@ -149,11 +146,11 @@ pub record IsGrown (old : List Knot) (n count : ℕ) (new : List Knot) : Type 0 
 
 pub record IsGrafted (old : Tournament) (n : ℕ) (children : List Part) (new : Tournament) : Type 0 where
   pub knots : IsGrown old.knots.items n (length children) new.knots.items
-  pub parts : new.parts.items ≡ old.parts.items ++ children
+  pub values : new.values.items ≡ old.values.items ++ map (λ p. p.value) children
   pub winners : length new.winners.items ≡ length new.knots.items
   pub numbers : AreParts new
   pub kept : (k : ℕ) → k < length old.knots.items → winner_at new k ≡ winner_at old k
-  pub fresh : (o : ℕ) → o < length children → winner_at new (length old.knots.items + o) ≡ Some (entrant new.parts.items (length old.knots.items + o))
+  pub fresh : (o : ℕ) → o < length children → winner_at new (length old.knots.items + o) ≡ Some (entrant new.values.items (length old.knots.items + o))
 
 -- x stands at place k alone
 pub record StandsAt (xs : List ℕ) (k x : ℕ) : Type 0 where
@@ -165,4 +162,4 @@ pub record StandsAt (xs : List ℕ) (k x : ℕ) : Type 0 where
 pub record Replaces (old : Tournament) (n : ℕ) (children : List Part) (new : Tournament) : Type 0 where
   pub size : length new.knots.items ≡ length old.knots.items + length children
   pub numbers : (k : ℕ) → StandsAt (numbers_in old) k n → numbers_in new ≡ replaced (numbers_in old) k (numbers_from (length old.knots.items) (length children))
-  pub parts : (k : ℕ) → StandsAt (numbers_in old) k n → parts_in new ≡ replaced (parts_in old) k children
+  pub values : new.values.items ≡ old.values.items ++ map (λ p. p.value) children

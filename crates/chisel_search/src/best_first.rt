@@ -12,9 +12,9 @@ ghost use Rattle.chisel_search.specs.Tournament.{winning_number};
 
 use crate::certify::certify;
 use crate::found::{Found, SearchFault};
+use crate::frontier::Frontier;
 use crate::machine::Machine;
 use crate::rule::Rule;
-use crate::tournament::Tournament;
 use bumpalo::Bump;
 use chisel_bound::{Differences, Pool};
 use chisel_table::{Partial, Table};
@@ -43,14 +43,14 @@ pub fn search_best_first<'a, F: Fn(&Table, &Partial) -> u32>(
 {
     let differences = Differences::new(alloc, t, pool)?;
     let mut machine = Machine::start(alloc, &differences)?;
-    let mut tournament = Tournament::start(alloc, &differences, &machine.bounds)?;
-    while let Some(number) = tournament.winner() {
+    let mut frontier = Frontier::start(alloc, &differences, &machine.bounds)?;
+    while let Some(number) = frontier.tournament.winner() {
         if machine.log.len() >= nodes as usize {
             return Err(SearchFault::Nodes);
         }
-        step(&differences, &mut machine, &mut tournament, rule, number)?;
+        step(&differences, &mut machine, &mut frontier, rule, number)?;
     }
-    drop(tournament);
+    drop(frontier);
     Ok(certify(alloc, arena, &differences, machine)?)
 }
 
@@ -58,20 +58,21 @@ pub fn search_best_first<'a, F: Fn(&Table, &Partial) -> u32>(
 fn step<F: Fn(&Table, &Partial) -> u32>(
     differences: &Differences,
     machine: &mut Machine,
-    tournament: &mut Tournament,
+    frontier: &mut Frontier,
     rule: &Rule<F>,
     number: u32,
 ) -> Result<(), AllocError>
     requires rule { IsRule F.pre F.post rule.now }
     requires searching { IsBestFirst differences.now
-        (Answered F.post rule.now (table_of differences.now)) machine.old tournament.old }
-    requires winner { winning_number tournament.old ≡ Some number }
+        (Answered F.post rule.now (table_of differences.now)) machine.old frontier.old }
+    requires winner { winning_number frontier.old.tournament ≡ Some number }
     ensures searching { OnOk result (IsBestFirst differences.now
-        (Answered F.post rule.now (table_of differences.now)) machine.new tournament.new) }
+        (Answered F.post rule.now (table_of differences.now)) machine.new frontier.new) }
     ensures visits { OnOk result (length machine.new.log.items ≡ length machine.old.log.items + 1) }
 {
-    let partial = tournament.parts[number as usize].partial;
+    let visit = machine.log.len();
+    let partial = frontier.partial(differences.table, &machine.log, number);
     let children = machine.visit(differences, rule, number as usize, &partial)?;
-    tournament.replace(number, &children)?;
+    frontier.replace(number, &children, visit)?;
     Ok(())
 }

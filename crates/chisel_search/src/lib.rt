@@ -6,6 +6,7 @@ mod best_first;
 mod certify;
 mod fold;
 mod found;
+mod frontier;
 mod law;
 mod machine;
 mod open;

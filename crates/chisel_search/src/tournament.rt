@@ -11,7 +11,6 @@ ghost use Rattle.chisel_search.specs.Tournament.{best, better, entrant, winner_a
 
 use crate::part::Part;
 use chisel_bound::{Bounds, Differences, greatest_value};
-use chisel_table::Partial;
 use std::alloc::{AllocError, Global};
 
 /// An open part, by its number and its value.
@@ -40,14 +39,15 @@ pub(crate) struct Knot {
 /// All parts that there ever were, by their numbers, which are of 32 bits since there are many.
 #[derive(Drop)]
 pub(crate) struct Tournament {
-    pub(crate) parts: Vec<Part>,
+    /// The greatest value of each over the vectors of the pool.
+    pub(crate) values: Vec<i128>,
     pub(crate) knots: Vec<Knot>,
     /// The first of the least value among the open parts from this one on, by its number.
     pub(crate) winners: Vec<Option<u32>>,
 }
 
 impl Tournament {
-    ghost use Rattle.chisel_search.specs.Tournament.{HasAdded, IsGrafted, IsJudgedBut, IsOpen, IsShaped, IsTournament, JudgesOne, KeepsTree, Replaces, due, numbers_in, parts_in, winning_number};
+    ghost use Rattle.chisel_search.specs.Tournament.{HasAdded, IsGrafted, IsJudgedBut, IsOpen, IsShaped, IsTournament, JudgesOne, KeepsTree, Replaces, due, numbers_in, winning_number};
 
     /// The part in which nothing is fixed, by its bounds.
     pub(crate) fn start(
@@ -59,19 +59,17 @@ impl Tournament {
         requires some { 0 < length (pool_of differences.now) }
         requires bounds { bounds.now ≡ all_bounds differences.now (nothing_fixed (table_of differences.now)) }
         ensures tournament { IfOk result IsTournament }
-        ensures parts { IfOk result (λ t. parts_in t
-            ≡ part_of (table_of differences.now) (pool_of differences.now) (nothing_fixed (table_of differences.now)) ∷ []) }
+        ensures values { IfOk result (λ t. t.values.items ≡ (part_of
+            (table_of differences.now) (pool_of differences.now) (nothing_fixed (table_of differences.now))).value ∷ []) }
         ensures numbers { IfOk result (λ t. numbers_in t ≡ 0 ∷ []) }
         ensures one { IfOk result (λ t. length t.knots.items ≡ 1) }
     {
-        let partial = Partial::nothing_fixed(differences.table);
-        let value = greatest_value(bounds);
         let mut tournament = Tournament {
-            parts: Vec::new(alloc),
+            values: Vec::new(alloc),
             knots: Vec::new(alloc),
             winners: Vec::new(alloc),
         };
-        tournament.add(Part { partial, value }, 0)?;
+        tournament.add(greatest_value(bounds), 0)?;
         Ok(tournament)
     }
 
@@ -101,21 +99,21 @@ impl Tournament {
         requires number { IsOpen self.old.knots.items number }
         ensures { OnOk result (IsGrafted self.old number children.now self.new) }
     {
-        let first = in_32_bits(self.parts.len())?;
+        let first = in_32_bits(self.values.len())?;
         let count = in_32_bits(children.len())?;
         for o in 0..children.len() {
-            self.add(children[o], number)?;
+            self.add(children[o].value, number)?;
         }
         self.knots[number as usize].family = Some(Family { first, count });
         Ok(())
     }
 
     // Adds an open part.
-    fn add(&mut self, part: Part, parent: u32) -> Result<(), AllocError>
-        ensures { OnOk result (HasAdded self.old part parent self.new) }
+    fn add(&mut self, value: i128, parent: u32) -> Result<(), AllocError>
+        ensures { OnOk result (HasAdded self.old value parent self.new) }
     {
-        let number = in_32_bits(self.parts.len())?;
-        self.parts.push(part)?;
+        let number = in_32_bits(self.values.len())?;
+        self.values.push(value)?;
         let family = None;
         self.knots.push(Knot { parent, family })?;
         self.winners.push(Some(number))?;
@@ -186,10 +184,10 @@ impl Tournament {
     }
 
     fn entrant(&self, number: u32) -> Entrant
-        requires { number < length self.now.parts.items }
-        ensures { result ≡ entrant self.now.parts.items number }
+        requires { number < length self.now.values.items }
+        ensures { result ≡ entrant self.now.values.items number }
     {
-        let value = self.parts[number as usize].value;
+        let value = self.values[number as usize];
         Entrant { number, value }
     }
 }
@@ -206,7 +204,7 @@ fn better(first: Option<Entrant>, second: Option<Entrant>) -> Option<Entrant>
 }
 
 // More parts than 32 bits count are want of memory.
-fn in_32_bits(count: usize) -> Result<u32, AllocError>
+pub(crate) fn in_32_bits(count: usize) -> Result<u32, AllocError>
     ensures { IfOk result (λ narrow. narrow ≡ count) }
 {
     match u32::try_from(count) {

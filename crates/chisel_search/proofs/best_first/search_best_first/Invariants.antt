@@ -6,7 +6,7 @@ use Rattle.chisel_search.proofs.best_first.search_best_first.Given as goal
 
 abbrev pub invariant-loop-number : goal.invariant-loop-number
 invariant-loop-number g l = record {
-  searching : IsBestFirst l.differences (Answered (goal.F-post g) l.rule (table_of l.differences)) l.machine l.tournament;
+  searching : IsBestFirst l.differences (Answered (goal.F-post g) l.rule (table_of l.differences)) l.machine l.frontier;
   few : length l.machine.log.items ≤ l.nodes;
 }
 

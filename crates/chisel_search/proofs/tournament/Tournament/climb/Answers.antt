@@ -18,7 +18,7 @@ loop-place-preserved c =
     record {
       inside = let a = i.inside in omega arith;
       keeps = record {
-        parts = c.judge.ensures.tree.parts ∙ i.keeps.parts;
+        values = c.judge.ensures.tree.values ∙ i.keeps.values;
         knots = c.judge.ensures.tree.knots ∙ i.keeps.knots;
         winners = c.judge.ensures.tree.winners ∙ i.keeps.winners;
       };
