@@ -1,5 +1,5 @@
 -- What debits and budgets are.
-use Rattle.std.proofs.Common.{◌≡◌, ℕ, zero, suc, Bool, true, false, ◌+◌, ◌-◌, ◌*◌, ◌^◌, ◌≤◌, ◌<◌, refl, sym, ap, subst, ◌∙◌, arith, Option, Some, None}
+use Rattle.std.proofs.Common.{◌≡◌, ℕ, Bool, true, false, ◌+◌, ◌-◌, ◌*◌, ◌^◌, ◌≤◌, ◌<◌, refl, sym, ap, subst, ◌∙◌, arith, Option, Some, None}
 use Rattle.std.specs.Prelude.{nat_le, nat_lt, unwrap_or}
 use Rattle.std.proofs.Math.Nat.{mul-le-mul_right}
 use Rattle.std.proofs.lemmas.Bool.{leb-true, le-leb, ltb-true}
@@ -8,7 +8,7 @@ use Rattle.rely_num.specs.Bounds.{S}
 use Rattle.rely_num.specs.Rounded.{mul_lo, mul_hi}
 use Rattle.chisel_debit.specs.declared.reliability.TheConstants.{MAX_DEBIT, BEYOND}
 use Rattle.chisel_debit.specs.Debits.{up, low, debit, budget, IsDebit, IsBudget, DebitIsLeast, BudgetIsGreatest}
-use Rattle.chisel_debit.proofs.Powers.{up_power, up_stays, low_power, low_none, low_below}
+use Rattle.chisel_debit.proofs.Powers.{up_power, up_stays, low_power, low_none, low_stays, low_falls, low_below}
 use Rattle.chisel_debit.proofs.Searches.{by_test, IsFirst, IsLast, FindsFirst, FindsLast, finds_first, finds_last, first_one, last_one}
 
 not_le : (a b : ℕ) → nat_le a b ≡ false → b < a
@@ -101,20 +101,78 @@ budget_power base bound small =
     let r = low_power base (budget base bound) in
     omega (arith, q, r)
 
--- nothing is within every budget
-pub budget_of_nothing : (base bound : ℕ) → bound ≡ 0 → IsBudget base bound MAX_DEBIT
-budget_of_nothing base bound h = record { counted = omega arith; keeps = omega arith; greatest = λ k l m. absurd (omega arith) }
+-- whatever the bound, it is counted
+pub budget_counted : (base bound : ℕ) → budget base bound ≤ MAX_DEBIT
+unfolding budget
+budget_counted base bound = counted _ (finds_last MAX_DEBIT (λ d. nat_le bound (low base d)))
+  where
+    counted : (r : Option ℕ) → FindsLast MAX_DEBIT (λ d. nat_le bound (low base d)) r → unwrap_or r 0 ≤ MAX_DEBIT
+    counted (Some d) h = h.within
+    counted None h = omega arith
 
--- the last power that is not below the bound
-pub budget_at : (base bound d : ℕ) → base ≤ S → d < MAX_DEBIT → bound ≤ low base d → low base (d + 1) < bound → IsBudget base bound d
-budget_at base bound d h l here next = record {
-  counted = omega arith;
-  keeps = here;
-  greatest = λ k m n. let w = low_below base (d + 1) k h (omega arith) in omega arith;
-}
+-- what the search for a budget answers where all powers that are counted keep the bound
+all_keep : (base bound : ℕ) → bound ≤ low base MAX_DEBIT → (r : Option ℕ) → FindsLast MAX_DEBIT (λ d. nat_le bound (low base d)) r → MAX_DEBIT ≡ unwrap_or r 0
+all_keep base bound here (Some e) h = by_test (nat_lt e MAX_DEBIT)
+    (λ x. absurd (let a = not_le bound (low base MAX_DEBIT) (h.none_after MAX_DEBIT (ltb-true e MAX_DEBIT x) (omega arith)) in omega arith))
+    (λ x. let w = h.within in grind (arith, nat_tests))
+all_keep base bound here None h = absurd (let a = not_le bound (low base MAX_DEBIT) (h.none MAX_DEBIT (omega arith)) in omega arith)
 
-pub budget_last : (base bound : ℕ) → bound ≤ low base MAX_DEBIT → IsBudget base bound MAX_DEBIT
-budget_last base bound here = record { counted = omega arith; keeps = here; greatest = λ k l m. absurd (omega arith) }
+pub budget_past : (base bound : ℕ) → bound ≤ low base MAX_DEBIT → MAX_DEBIT ≡ budget base bound
+unfolding budget
+budget_past base bound here = all_keep base bound here _ (finds_last MAX_DEBIT (λ d. nat_le bound (low base d)))
+
+-- one that doesn't fall any more keeps it
+pub budget_stuck : (base bound d : ℕ) → d ≤ MAX_DEBIT → bound ≤ low base d → mul_lo (low base d) base ≡ low base d → MAX_DEBIT ≡ budget base bound
+budget_stuck base bound d counted here stays =
+    let e : d + (MAX_DEBIT - d) ≡ MAX_DEBIT = omega arith in
+    let same = low_stays base d (MAX_DEBIT - d) stays in
+    let there : bound ≤ low base (d + (MAX_DEBIT - d)) = omega arith in
+    budget_past base bound (subst (λ (n : ℕ). bound ≤ low base n) e there)
+
+-- the next power is the first below the bound
+pub record IsBelow (base bound d : ℕ) : Type 0 where
+  pub counted : d ≤ MAX_DEBIT
+  pub keeps : 0 < d → bound ≤ low base d
+  pub below : low base (d + 1) < bound
+  pub small : low base (d + 1) ≤ S
+
+module _ (base bound d : ℕ) (at : IsBelow base bound d) where
+  falls : low base (d + 1) ≤ low base d
+  falls = by_test (nat_lt 0 d)
+      (λ x. let k = at.keeps (ltb-true 0 d x) in let b = at.below in omega arith)
+      (λ x.
+      let z : d ≡ 0 = grind (arith, nat_tests) in
+      let e = ap (low base) z ∙ low_none base in
+      let s = at.small in omega arith)
+
+  later : (k : ℕ) → d < k → low base k < bound
+  later k l =
+      let e : (d + 1) + (k - (d + 1)) ≡ k = omega arith in
+      let w = low_below base (d + 1) (k - (d + 1)) (low_falls base d 1 falls) in
+      let b = at.below in
+      let there : low base ((d + 1) + (k - (d + 1))) < bound = omega arith in
+      subst (λ (n : ℕ). low base n < bound) e there
+
+  reached : (r : Option ℕ) → FindsLast MAX_DEBIT (λ k. nat_le bound (low base k)) r → d ≡ unwrap_or r 0
+  reached (Some e) h = by_test (nat_lt d e)
+      (λ x. absurd (
+      let a = leb-true bound (low base e) h.holds in
+      let b = later e (ltb-true d e x) in omega arith))
+      (λ x. by_test (nat_lt e d)
+      (λ y. absurd (
+      let l = ltb-true e d y in
+      let a = not_le bound (low base d) (h.none_after d l at.counted) in
+      let k = at.keeps (omega arith) in omega arith))
+      (λ y. grind (arith, nat_tests)))
+  reached None h = by_test (nat_lt 0 d)
+      (λ x. absurd (
+      let a = not_le bound (low base d) (h.none d at.counted) in
+      let k = at.keeps (ltb-true 0 d x) in omega arith))
+      (λ x. grind (arith, nat_tests))
+
+  pub budget_reached : d ≡ budget base bound
+  unfolding budget
+  budget_reached = reached _ (finds_last MAX_DEBIT (λ k. nat_le bound (low base k)))
 
 -- the first power that isn't above the reliability
 pub debit_reached : (base p d : ℕ) → d ≤ MAX_DEBIT → ((k : ℕ) → k < d → p < up base k) → up base d ≤ p → d ≡ debit base p
@@ -148,12 +206,3 @@ debit_stuck base p d passed here stays = debit_missed base p (λ k l. by_test (n
     let same = up_stays base d (k - d) stays in
     let there : p < up base (d + (k - d)) = omega arith in
     subst (λ (n : ℕ). p < up base n) e there))
-
--- the powers of one never fall
-low_one : (base d : ℕ) → base ≡ S → low base d ≡ S
-unfolding low
-low_one base zero h = refl
-low_one base (suc d) h = ap (λ x. mul_lo x base) (low_one base d h) ∙ ap (mul_lo S) h
-
-pub budget_of_one : (base bound : ℕ) → base ≡ S → bound ≤ S → IsBudget base bound MAX_DEBIT
-budget_of_one base bound h small = budget_last base bound (let e = low_one base MAX_DEBIT h in omega arith)

@@ -1,10 +1,8 @@
 -- Powers of a base, rounded up or down at each product.
-use Rattle.std.proofs.Common.{◌≡◌, ℕ, zero, suc, Bool, true, false, ◌+◌, ◌*◌, ◌^◌, ◌≤◌, refl, ap, ◌∙◌, arith, add-one}
-use Rattle.std.proofs.Math.Nat.{pow-zero, pow-suc, mul-le-mul_left, mul-le-mul_right, div-mul-le_self, div-le_of_le-mul}
-use Rattle.std.proofs.lemmas.Bool.{leb-true}
-use Rattle.std.proofs.lemmas.Bool.Decides.{nat_tests}
+use Rattle.std.proofs.Common.{◌≡◌, ℕ, zero, suc, ◌+◌, ◌*◌, ◌/◌, ◌^◌, ◌≤◌, refl, ap, ◌∙◌, arith, add-one}
+use Rattle.std.proofs.Math.Nat.{pow-zero, pow-suc, mul-le-mul_right, div-mul-le_self}
 use Rattle.std.proofs.lemmas.Grind.{div_ceil_times}
-use Rattle.std.specs.Prelude.{nat_le}
+use Rattle.std.proofs.lemmas.Nat.{le-div}
 use Rattle.rely_num.specs.Bounds.{S}
 use Rattle.rely_num.specs.Rounded.{mul_lo, mul_hi}
 use Rattle.chisel_debit.specs.Debits.{up, low}
@@ -44,23 +42,36 @@ low_power base (suc d) =
     let h2 = mul-le-mul_right (S ^ d) (div-mul-le_self (low base d * base) S) in
     rw (pow-suc base d, pow-suc S d) (omega (arith, h1, h2))
 
--- where a power doesn't fall, no later one does
-pub up_stays : (base d n : ℕ) → mul_hi (up base d) base ≡ up base d → up base (d + n) ≡ up base d
-up_stays base d zero h = ap (up base) (omega arith)
-up_stays base d (suc n) h =
+-- where a power is the same again, all later ones are
+stays : (next powers : ℕ → ℕ) → ((d : ℕ) → powers (d + 1) ≡ next (powers d)) → (d n : ℕ) → next (powers d) ≡ powers d → powers (d + n) ≡ powers d
+stays next powers more d zero h = ap powers (omega arith)
+stays next powers more d (suc n) h =
     let e : d + suc n ≡ (d + n) + 1 = omega arith in
-    ap (up base) e ∙ up_more base (d + n) ∙ ap (λ x. mul_hi x base) (up_stays base d n h) ∙ h
+    ap powers e ∙ more (d + n) ∙ ap next (stays next powers more d n h) ∙ h
 
--- powers rounded down only fall
-pub low_falls : (base d : ℕ) → base ≤ S → low base (suc d) ≤ low base d
-unfolding low
-low_falls base d h = let a = mul-le-mul_left (low base d) h in div-le_of_le-mul S (omega (arith, a))
+pub up_stays : (base d n : ℕ) → mul_hi (up base d) base ≡ up base d → up base (d + n) ≡ up base d
+up_stays base = stays (λ x. mul_hi x base) (up base) (up_more base)
 
-pub low_below : (base d e : ℕ) → base ≤ S → d ≤ e → low base e ≤ low base d
-unfolding low
-low_below base d zero h l = let q : d ≡ 0 = omega arith in rw q (omega arith)
-low_below base d (suc e) h l = go (nat_le (suc e) d) refl (low_below base d e h)
-  where
-    go : (b : Bool) → nat_le (suc e) d ≡ b → (d ≤ e → low base e ≤ low base d) → low base (suc e) ≤ low base d
-    go true x ih = let m = leb-true (suc e) d x in let q : d ≡ suc e = omega arith in rw q (omega arith)
-    go false x ih = let m : d ≤ e = grind (arith, nat_tests) in let a = ih m in let b = low_falls base e h in omega arith
+pub low_stays : (base d n : ℕ) → mul_lo (low base d) base ≡ low base d → low base (d + n) ≡ low base d
+low_stays base = stays (λ x. mul_lo x base) (low base) (low_more base)
+
+mul_lo_keeps : (a b base : ℕ) → a ≤ b → mul_lo a base ≤ mul_lo b base
+mul_lo_keeps a b base h =
+    let m = mul-le-mul_right base h in
+    let d = div-mul-le_self (a * base) S in
+    le-div (a * base / S) (b * base) S (omega arith) (omega (arith, m, d))
+
+-- where a power isn't above the one before, no later one is
+pub low_falls : (base d n : ℕ) → low base (d + 1) ≤ low base d → low base ((d + n) + 1) ≤ low base (d + n)
+low_falls base d zero h = let e : d + 0 ≡ d = omega arith in rw e h
+low_falls base d (suc n) h =
+    let e : d + suc n ≡ (d + n) + 1 = omega arith in
+    let m = mul_lo_keeps (low base ((d + n) + 1)) (low base (d + n)) base (low_falls base d n h) in
+    rw e (omega (arith, m, low_more base ((d + n) + 1), low_more base (d + n)))
+
+-- so all later ones are at most it
+pub low_below : (base d n : ℕ) → low base (d + 1) ≤ low base d → low base (d + n) ≤ low base d
+low_below base d zero h = let e : d + 0 ≡ d = omega arith in rw e (omega arith)
+low_below base d (suc n) h =
+    let e : d + suc n ≡ (d + n) + 1 = omega arith in
+    rw e (omega (arith, low_falls base d n h, low_below base d n h))

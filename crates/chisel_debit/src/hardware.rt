@@ -2,6 +2,7 @@ ghost use Rattle.std.specs.Prelude.{◌≡◌, IfOk};
 ghost use Rattle.chisel_debit.specs.Hardware.{debit_list, kind_debits, operator_debits};
 
 use crate::known::Known;
+use crate::reliability::DebitWalk;
 use rely_hard::{Hardware, KindSpec, OpSpec};
 use rely_num::List;
 use std::alloc::{AllocError, Global};
@@ -26,11 +27,11 @@ pub fn debits(alloc: Global, h: &Hardware) -> Result<DebitList, AllocError>
     let memories = h.memories.as_slice();
     let reads = memories
         .iter()
-        .map(|memory| known.debit(memory.read))
+        .map(|memory| known.answer(memory.read))
         .collect(alloc)?;
     let writes = memories
         .iter()
-        .map(|memory| known.debit(memory.write))
+        .map(|memory| known.answer(memory.write))
         .collect(alloc)?;
     Ok(DebitList {
         ops: List::from_vec(ops),
@@ -42,7 +43,7 @@ pub fn debits(alloc: Global, h: &Hardware) -> Result<DebitList, AllocError>
 // The debits of the operators' kinds.
 fn operator_debits(
     alloc: Global,
-    known: &Known,
+    known: &Known<DebitWalk>,
     operators: &[OpSpec],
 ) -> Result<Vec<List<u32>>, AllocError>
     ensures { IfOk result (λ debits. debits.items ≡ operator_debits known.now.base operators.now) }
@@ -55,12 +56,16 @@ fn operator_debits(
     Ok(debits)
 }
 
-fn kind_debits(alloc: Global, known: &Known, kinds: &[KindSpec]) -> Result<Vec<u32>, AllocError>
+fn kind_debits(
+    alloc: Global,
+    known: &Known<DebitWalk>,
+    kinds: &[KindSpec],
+) -> Result<Vec<u32>, AllocError>
     ensures { IfOk result (λ debits. debits.items ≡ kind_debits known.now.base kinds.now) }
 {
     kinds
         .iter()
-        .map(|kind| known.debit(kind.right))
+        .map(|kind| known.answer(kind.right))
         .collect(alloc)
 }
 

@@ -1,45 +1,53 @@
 ghost use Rattle.std.specs.Prelude.{◌≡◌, IfOk, map};
-ghost use Rattle.chisel_debit.specs.Debits.{debit};
+ghost use Rattle.chisel_debit.specs.Debits.{budget, debit};
 
-use crate::reliability::{BEYOND, debit};
-use crate::walk::Walk;
+use crate::bound::BudgetWalk;
+use crate::reliability::DebitWalk;
+use crate::walk::{Walk, walk_to};
 use rely_num::{Atto, List};
 use std::alloc::{AllocError, Global};
+use std::marker::PhantomData;
 
-/// Reliabilities in rising order, with the debit of each, all from one walk.
+/// Numbers in rising order, with what a walk answers of each, all from one walk.
 #[derive(Drop)]
-pub(crate) struct Known {
+pub(crate) struct Known<W: Walk> {
     base: Atto,
-    rights: Vec<u64>,
-    debits: Vec<u32>,
-    ghost walked: { debits.items ≡ map (debit base) rights.items },
+    numbers: Vec<u64>,
+    answers: Vec<u32>,
+    by: PhantomData<W>,
+    ghost walked: { answers.items ≡ map (W.answer_of base) numbers.items },
 }
 
-impl Known {
-    /// The debits of so many reliabilities, in attos.
-    pub(crate) fn new(alloc: Global, base: Atto, mut rights: Vec<u64>) -> Result<Known, AllocError>
+impl<W: Walk> Known<W> {
+    /// What is answered of so many numbers, in attos.
+    pub(crate) fn new(
+        alloc: Global,
+        base: Atto,
+        mut numbers: Vec<u64>,
+    ) -> Result<Known<W>, AllocError>
         ensures { IfOk result (λ known. known.base ≡ base) }
     {
-        rights.sort_unstable();
-        let mut debits = vec![in alloc; BEYOND; rights.len()]?;
-        let mut walk = Walk::new(base);
-        for i in (0..rights.len()).rev() {
-            debits[i] = walk.debit(rights[i]);
+        numbers.sort_unstable();
+        let mut answers = vec![in alloc; 0; numbers.len()]?;
+        let mut walk = W::new(base);
+        for i in (0..numbers.len()).rev() {
+            answers[i] = walk.answer(numbers[i]);
         }
         Ok(Known {
             base,
-            rights,
-            debits,
+            numbers,
+            answers,
+            by: PhantomData,
         })
     }
 
-    /// The debit of a reliability: looked up where it is known, and else walked to.
-    pub(crate) fn debit(&self, right: Atto) -> u32
-        ensures { result ≡ debit self.now.base right }
+    /// What is answered of a number: looked up where it is known, and else walked to.
+    pub(crate) fn answer(&self, number: Atto) -> u32
+        ensures { result ≡ W.answer_of self.now.base number }
     {
-        match self.rights.binary_search(&right.get()) {
-            Ok(i) => self.debits[i],
-            Err(_) => debit(self.base, right),
+        match self.numbers.binary_search(&number.get()) {
+            Ok(i) => self.answers[i],
+            Err(_) => walk_to::<W>(self.base, number),
         }
     }
 }
@@ -48,11 +56,24 @@ impl Known {
 pub fn debits_of(alloc: Global, base: Atto, rights: &[Atto]) -> Result<List<u32>, AllocError>
     ensures { IfOk result (λ debits. debits ≡ map (debit base) rights.now) }
 {
-    let attos = rights.iter().map(|right| right.get()).collect(alloc)?;
-    let known = Known::new(alloc, base, attos)?;
-    let debits = rights
+    answers_of::<DebitWalk>(alloc, base, rights)
+}
+
+/// The budgets of bounds, in their order, all by one walk over the powers of the base.
+pub fn budgets_of(alloc: Global, base: Atto, bounds: &[Atto]) -> Result<List<u32>, AllocError>
+    ensures { IfOk result (λ budgets. budgets ≡ map (budget base) bounds.now) }
+{
+    answers_of::<BudgetWalk>(alloc, base, bounds)
+}
+
+fn answers_of<W: Walk>(alloc: Global, base: Atto, numbers: &[Atto]) -> Result<List<u32>, AllocError>
+    ensures { IfOk result (λ answers. answers ≡ map (W.answer_of base) numbers.now) }
+{
+    let attos = numbers.iter().map(|number| number.get()).collect(alloc)?;
+    let known: Known<W> = Known::new(alloc, base, attos)?;
+    let answers = numbers
         .iter()
-        .map(|right| known.debit(*right))
+        .map(|number| known.answer(*number))
         .collect(alloc)?;
-    Ok(List::from_vec(debits))
+    Ok(List::from_vec(answers))
 }

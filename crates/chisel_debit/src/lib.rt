@@ -12,6 +12,6 @@ mod walk;
 
 pub use bound::budget;
 pub use hardware::{DebitList, debits};
-pub use known::debits_of;
+pub use known::{budgets_of, debits_of};
 pub use law::{budget_is_greatest, budgets_keep_bounds, debit_is_least};
 pub use reliability::{BEYOND, MAX_DEBIT, debit};

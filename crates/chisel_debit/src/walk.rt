@@ -1,53 +1,33 @@
-ghost use Rattle.std.specs.Prelude.{◌≡◌, ℕ, ◌<◌, ◌≤◌};
-ghost use Rattle.rely_num.specs.Bounds.{S};
-ghost use Rattle.chisel_debit.specs.Debits.{debit, up};
-ghost use Rattle.chisel_debit.specs.declared.reliability.TheConstants.{MAX_DEBIT};
+ghost use Rattle.std.specs.Prelude.{◌≡◌, ◌≤◌, ℕ};
 
-use crate::reliability::{BEYOND, MAX_DEBIT};
-use rely_num::{Atto, mul_hi};
+use rely_num::Atto;
 
-/// A walk down the powers of a base, each rounded up from the one before, over reliabilities that fall.
-#[derive(Clone, Copy)]
-pub(crate) struct Walk {
-    base: Atto,
-    power: Atto,
-    steps: u32,
-    ghost reached: { power ≡ up base steps },
-    ghost counted: { steps ≤ MAX_DEBIT },
+/// A walk down the powers of a base, each rounded from the one before, over numbers that fall or stay.
+pub(crate) trait Walk: Drop {
+    /// The base.
+    ghost base_of: { Self → ℕ };
+
+    /// What it answers of a number, by the base.
+    ghost answer_of: { ℕ → ℕ → ℕ };
+
+    /// No power passed so far is the one to find for the number.
+    ghost is_ahead: { Self → ℕ → Type 0 };
+
+    fn new(base: Atto) -> Self
+        ensures base { base_of result ≡ base }
+        ensures ahead { (n : ℕ) → is_ahead result n };
+
+    /// The answer of a number that is still ahead. It goes on from there.
+    fn answer(&mut self, number: u64) -> u32
+        requires { is_ahead self.old number }
+        ensures exact { result ≡ answer_of (base_of self.old) number }
+        ensures base { base_of self.new ≡ base_of self.old }
+        ensures ahead { (n : ℕ) → n ≤ number → is_ahead self.new n };
 }
 
-impl Walk {
-    pub(crate) fn new(base: Atto) -> Walk
-        ensures base { result.base ≡ base }
-        ensures start { result.steps ≡ 0 }
-    {
-        Walk {
-            base,
-            power: Atto::ONE,
-            steps: 0,
-        }
-    }
-
-    /// The debit of a reliability that no power passed so far is down to. It goes on from there.
-    ///
-    /// Where a power doesn't fall, no later one does.
-    pub(crate) fn debit(&mut self, right: u64) -> u32
-        requires { (k : ℕ) → k < self.old.steps → right < up self.old.base k }
-        ensures exact { result ≡ debit self.old.base right }
-        ensures base { self.new.base ≡ self.old.base }
-        ensures passed { (k : ℕ) → k < self.new.steps → right < up self.old.base k }
-    {
-        while right < self.power.get() {
-            let next = mul_hi(self.power, self.base);
-            if self.steps == MAX_DEBIT || next == self.power {
-                return BEYOND;
-            }
-            *self = Walk {
-                base: self.base,
-                power: next,
-                steps: self.steps + 1,
-            };
-        }
-        self.steps
-    }
+/// What a walk from the start answers of one number. It takes no memory.
+pub(crate) fn walk_to<W: Walk>(base: Atto, number: Atto) -> u32
+    ensures { result ≡ W.answer_of base number }
+{
+    W::new(base).answer(number.get())
 }

@@ -1,7 +1,7 @@
 use Rattle.std.proofs.Common.{◌≡◌, ℕ, ◌<◌, ◌-◌}
 use Rattle.chisel_debit.specs.Debits.{up}
 use Rattle.chisel_debit.specs.declared.reliability.TheConstants.{MAX_DEBIT}
-use Rattle.chisel_debit.proofs.walk.Walk.debit.Given as goal
+use Rattle.chisel_debit.proofs.reliability.DebitWalkWalk.answer.Given as goal
 
 abbrev pub invariant-loop-next : goal.invariant-loop-next
 invariant-loop-next l = record {

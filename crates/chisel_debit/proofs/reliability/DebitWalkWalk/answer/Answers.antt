@@ -4,8 +4,8 @@ use Rattle.rely_num.specs.Rounded.{mul_hi}
 use Rattle.chisel_debit.specs.Debits.{up}
 use Rattle.chisel_debit.proofs.DebitLaws.{debit_reached, debit_past, debit_stuck}
 use Rattle.chisel_debit.proofs.Powers.{up_more}
-use Rattle.chisel_debit.proofs.walk.Walk.debit.Goals as goal
-use Rattle.chisel_debit.proofs.walk.Walk.debit.Goals.{then-self-eq-MAX_DEBIT-via-then-self-eq-MAX_DEBIT, then-self-eq-MAX_DEBIT-via-else-self-eq-MAX_DEBIT+then-eq}
+use Rattle.chisel_debit.proofs.reliability.DebitWalkWalk.answer.Goals as goal
+use Rattle.chisel_debit.proofs.reliability.DebitWalkWalk.answer.Goals.{then-self-eq-MAX_DEBIT-via-then-self-eq-MAX_DEBIT, then-self-eq-MAX_DEBIT-via-else-self-eq-MAX_DEBIT+then-eq}
 
 pub returns-then-self-eq-MAX_DEBIT-clause-exact : goal.returns-then-self-eq-MAX_DEBIT-clause-exact
 returns-then-self-eq-MAX_DEBIT-clause-exact c =

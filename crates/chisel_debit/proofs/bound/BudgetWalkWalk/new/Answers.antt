@@ -1,0 +1,6 @@
+use Rattle.std.proofs.Common.{sym, arith}
+use Rattle.chisel_debit.proofs.Powers.{low_none}
+use Rattle.chisel_debit.proofs.bound.BudgetWalkWalk.new.Goals as goal
+
+pub invariant_of-result-2 : goal.invariant_of-result-2
+invariant_of-result-2 c = record { reached = sym (low_none c.args.base); counted = omega arith }
