@@ -1,7 +1,7 @@
 -- What holds of each item of a list, part by part.
 use Rattle.std.proofs.Common.{◌≡◌, ℕ, zero, suc, ◌+◌, ◌<◌, List, [], ◌∷◌, ◌++◌, map, drop, get_or, length, Some, refl, ap, subst, arith}
-use Rattle.std.specs.Prelude.{slice_get, slice_index_or}
-use Rattle.std.specs.List.{AllByRecursion}
+use Rattle.std.specs.Prelude.{flat_map, slice_get, slice_index_or}
+use Rattle.std.specs.List.{AllByRecursion, zip}
 use Rattle.std.proofs.lemmas.Option.{same_Some}
 use Rattle.rely_machine.specs.EnergySums.{sum_from}
 
@@ -35,6 +35,23 @@ module _ {X : Type 0} (P : X → Type 0) where
 pub mapped_twice : {X Y Z : Type 0} (f : Y → Z) (g : X → Y) (xs : List X) → map f (map g xs) ≡ map (λ x. f (g x)) xs
 mapped_twice f g [] = refl
 mapped_twice f g (x ∷ xs) = ap (λ zs. f (g x) ∷ zs) (mapped_twice f g xs)
+
+-- pairs of which the first parts are mapped before
+pub flat_zipped : {X Y Z W : Type 0} (f : Z → Y → List W) (g : X → Z) (xs : List X) (ys : List Y)
+    → flat_map (λ x. f x.0 x.1) (zip (map g xs) ys) ≡ flat_map (λ x. f (g x.0) x.1) (zip xs ys)
+flat_zipped f g [] ys = refl
+flat_zipped f g (x ∷ xs) [] = refl
+flat_zipped f g (x ∷ xs) (y ∷ ys) = ap (λ zs. f (g x) y ++ zs) (flat_zipped f g xs ys)
+
+-- the first of the pairs from a place on, and those behind it
+pub flat_front : {X Y Z : Type 0} (f : X × Y → List Z) (xs : List X) (ys : List Y) (i : ℕ) (x : X) (y : Y) → i < length xs → i < length ys
+    → flat_map f (zip (drop i xs) (drop i ys)) ≡ f (get_or xs i x, get_or ys i y) ++ flat_map f (zip (drop (i + 1) xs) (drop (i + 1) ys))
+flat_front f [] ys i x y l m = absurd (omega (arith, l))
+flat_front f (a ∷ xs) [] i x y l m = absurd (omega (arith, m))
+flat_front f (a ∷ xs) (b ∷ ys) zero x y l m = refl
+flat_front f (a ∷ xs) (b ∷ ys) (suc i) x y l m =
+    let e : suc i + 1 ≡ suc (i + 1) = omega arith in
+    rw e (flat_front f xs ys i x y (omega (arith, l)) (omega (arith, m)))
 
 -- a sum over items of which one number each is known
 pub from_front : {X : Type 0} (g : X → ℕ) (f : ℕ → ℕ → ℕ) (a : ℕ) (xs : List X) (i d : ℕ) → i < length (map g xs)

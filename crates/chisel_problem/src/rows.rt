@@ -1,19 +1,21 @@
-ghost use Rattle.std.specs.Prelude.{◌≡◌, ◌++◌, ◌<◌, ◌^◌, IfOk, OnOk, length};
+ghost use Rattle.std.specs.Prelude.{◌≡◌, ◌++◌, ◌<◌, ◌^◌, IfOk, OnOk, length, map};
 ghost use Rattle.std.specs.List.{AllByRecursion};
 ghost use Rattle.rely_kernel.specs.Valid.{IsValid};
 ghost use Rattle.rely_predicate.specs.Predicates.{IsPredicate};
+ghost use Rattle.chisel_debit.specs.Debits.{budget};
 ghost use Rattle.chisel_problem.specs.Problem.{ArePredicates, row_within, rows_of, rows_within};
 
 use crate::places::{closed, opened};
 use crate::spending::Debits;
-use chisel_debit::budget;
+use chisel_debit::budgets_of;
 use chisel_table::Row;
-use rely_num::Conj;
+use rely_kernel::Claim;
+use rely_num::{Atto, Conj, List};
 use rely_predicate::Predicate;
 use std::alloc::{AllocError, Global};
 
 /// The rows of a kernel's claims, one for each conjunct. Each predicate is read.
-#[tactic(auto, using(crate::proofs::Predicates::read_more, crate::proofs::Predicates::read_all))]
+#[tactic(auto, using(crate::proofs::Predicates::read_all))]
 pub(crate) fn rows(
     alloc: Global,
     debits: &Debits,
@@ -25,12 +27,28 @@ pub(crate) fn rows(
         (λ rows. rows.items ≡ rows_of debits.now.h.now debits.now.k.now preds.now) }
     ensures read { IfOk result (λ _. AllByRecursion IsPredicate preds.now) }
 {
+    let budgets = budgets(alloc, debits)?;
     let mut rows = Vec::new(alloc);
-    for (i, claim) in debits.k.claims.as_slice().iter().enumerate() {
-        let budget = budget(debits.h.base, claim.bound);
-        add_rows(&mut rows, debits, budget, preds[i].conjs())?;
+    for (i, budget) in budgets.as_slice().iter().enumerate() {
+        add_rows(&mut rows, debits, *budget, preds[i].conjs())?;
     }
     Ok(rows)
+}
+
+// The budgets of the claims are all found by one walk.
+#[tactic(auto, using(crate::proofs::Lists::mapped_twice))]
+fn budgets(alloc: Global, debits: &Debits) -> Result<List<u32>, AllocError>
+    ensures { IfOk result (λ budgets. budgets
+        ≡ map (λ claim. budget debits.now.h.now.base claim.bound) debits.now.k.now.claims) }
+{
+    let bounds = bounds(alloc, debits.k.claims.as_slice())?;
+    budgets_of(alloc, debits.h.base, &bounds)
+}
+
+fn bounds(alloc: Global, claims: &[Claim]) -> Result<Vec<Atto>, AllocError>
+    ensures { IfOk result (λ bounds. bounds.items ≡ map (λ claim. claim.bound) claims.now) }
+{
+    claims.iter().map(|claim| claim.bound).collect(alloc)
 }
 
 fn add_rows(

@@ -17,8 +17,7 @@ returns-then-get-bound-clause-exact c =
     let walk = c.loop-steps.self in
     let kept = c.loop-steps.invariant in
     let at : walk.power ≡ low base c.loop-steps.steps = walk.reached ∙ (λ i. low (kept.base i) (kept.steps i)) in
-    let next : c.mul_lo-next.result ≡ low base (c.loop-steps.steps + 1) =
-    c.mul_lo-next.ensures.value ∙ (λ i. mul_lo (at i) (kept.base i)) ∙ sym (low_more base c.loop-steps.steps) in
+    let next : c.mul_lo-next.result ≡ low base (c.loop-steps.steps + 1) = c.mul_lo-next.ensures.value ∙ (λ i. mul_lo (at i) (kept.base i)) ∙ sym (low_more base c.loop-steps.steps) in
     let counted = walk.counted in
     budget_reached base c.args.bound c.loop-steps.steps (record {
       counted = omega (arith, kept.steps);
