@@ -1,5 +1,5 @@
 //! The conjuncts of a predicate, none of which covers another: what stands there, and how one more is put there.
-ghost use Rattle.std.specs.Prelude.{◌≡◌, ◌≤◌, ◌<◌, ◌↔◌, not, length, filter, Err, IfErr, IfOk, vec_len, vec_capacity};
+ghost use Rattle.std.specs.Prelude.{◌≡◌, ◌≤◌, ◌<◌, ◌↔◌, not, length, filter, Err, IfErr, IfOk, OnOk, true, false, vec_len, vec_capacity};
 ghost use Rattle.std.specs.List.{list_any, insert, AllPass};
 ghost use Rattle.rely_predicate.specs.Top.{covers, put, with_one};
 
@@ -7,6 +7,7 @@ use crate::compare::{covers_any, is_before};
 use crate::predicate::PredFault;
 use rely_num::{Conj, List};
 use std::alloc::{AllocError, Global};
+use std::mem::replace;
 
 /// The most conjuncts of a predicate.
 pub(crate) const MOST: usize = 256;
@@ -21,7 +22,7 @@ pub(crate) fn add(conjs: &mut Vec<Conj>, c: Conj) -> Result<(), PredFault>
     if is_covered(conjs, &c) {
         return Ok(());
     }
-    if kept(conjs, &c) == MOST {
+    if is_full(conjs, &c) {
         return Err(PredFault::Wide);
     }
     conjs.try_reserve(1)?;
@@ -36,6 +37,15 @@ fn is_covered(conjs: &[Conj], c: &Conj) -> bool
     ensures { result ≡ list_any (λ d. covers d c.now) conjs.now }
 {
     conjs.iter().any(|d| covers_any(d, c))
+}
+
+// Whether there is no room for `c`. Fewer conjuncts than the most leave room, whatever it covers.
+fn is_full(conjs: &[Conj], c: &Conj) -> bool
+    ensures full { result ≡ true → length (filter (λ d. not (covers c.now d)) conjs.now) ≡ 256 }
+    ensures room { result ≡ false → length conjs.now ≤ 256
+        → length (filter (λ d. not (covers c.now d)) conjs.now) < 256 }
+{
+    conjs.len() >= MOST && kept(conjs, c) == MOST
 }
 
 // How many conjuncts `c` doesn't cover.
@@ -89,4 +99,48 @@ fn copy(alloc: Global, c: &Conj) -> Result<Conj, AllocError>
         counts: List::from_vec(counts),
         vars: c.vars,
     })
+}
+
+/// Copies of conjuncts, in the memory of other ones as far as that goes.
+pub(crate) fn copies_into(
+    alloc: Global,
+    mut list: Vec<Conj>,
+    conjs: &[Conj],
+) -> Result<Vec<Conj>, AllocError>
+    ensures { IfOk result (λ list. list.items ≡ conjs.now) }
+{
+    list.truncate(conjs.len());
+    let (over, more) = conjs.split_at(list.len());
+    overwrite(alloc, &mut list, over)?;
+    for c in more {
+        list.push(copy(alloc, c)?)?;
+    }
+    Ok(list)
+}
+
+// Puts copies of as many conjuncts in the place of those that stand there.
+fn overwrite(alloc: Global, list: &mut [Conj], conjs: &[Conj]) -> Result<(), AllocError>
+    requires { length list.old ≡ length conjs.now }
+    ensures { OnOk result (list.new ≡ conjs.now) }
+{
+    for i in 0..list.len() {
+        overwrite_one(alloc, &mut list[i], &conjs[i])?;
+    }
+    Ok(())
+}
+
+// It takes memory only where the numbers of labels differ.
+fn overwrite_one(alloc: Global, spare: &mut Conj, c: &Conj) -> Result<(), AllocError>
+    ensures { OnOk result (spare.new ≡ c.now) }
+{
+    let counts = c.counts.as_slice();
+    let mut room = replace(&mut spare.counts, List::from_vec(Vec::new(alloc))).into_vec();
+    if room.len() == counts.len() {
+        room.copy_from_slice(counts);
+    } else {
+        room = Vec::from_slice(alloc, counts)?;
+    }
+    spare.counts = List::from_vec(room);
+    spare.vars = c.vars;
+    Ok(())
 }

@@ -4,7 +4,7 @@ ghost use Rattle.rely_predicate.specs.Top.{top};
 ghost use Rattle.rely_predicate.specs.Shift.{times, raise};
 ghost use Rattle.rely_predicate.specs.Predicates.{IsPredicate, StaysBelow};
 
-use crate::list::{add, copies};
+use crate::list::{add, copies, copies_into};
 use crate::raise::raise_each;
 use rely_num::Conj;
 use std::alloc::{AllocError, AllocFailed, Global};
@@ -102,6 +102,16 @@ impl Predicate {
         Ok(Predicate {
             labels: self.labels,
             conjs: copies(alloc, self.conjs.as_slice())?,
+        })
+    }
+
+    /// The same once more, in the memory of another where that is enough.
+    pub fn copy_into(&self, alloc: Global, spare: Predicate) -> Result<Predicate, AllocError>
+        ensures { IfOk result (λ p. p ≡ self.now) }
+    {
+        Ok(Predicate {
+            labels: self.labels,
+            conjs: copies_into(alloc, spare.conjs, self.conjs.as_slice())?,
         })
     }
 

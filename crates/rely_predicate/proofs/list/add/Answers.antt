@@ -5,7 +5,7 @@ use Rattle.std.proofs.lemmas.List.Elements.{filter_passes}
 use Rattle.std.proofs.lemmas.Result.{err_from_is_err_and}
 use Rattle.rely_num.specs.declared.conj.Conj.{Conj}
 use Rattle.rely_predicate.specs.Top.{covers, put, with_one}
-use Rattle.rely_predicate.proofs.Placing.{with_one_stays, with_one_goes, with_one_length, kept_short}
+use Rattle.rely_predicate.proofs.Placing.{with_one_stays, with_one_goes, with_one_length}
 use Rattle.rely_predicate.proofs.Predicates.{is_wide, narrow}
 use Rattle.rely_predicate.proofs.list.add.Goals as goal
 
@@ -24,14 +24,14 @@ returns-then-is_covered-clause-wide c =
     let e : length (with_one x xs) ≡ length xs = ap length (with_one_stays x xs covered) in
     narrow (Ok tt) (length (with_one x xs)) refl (omega (arith, e, c.requires))
 
-pub returns-then-kept-eq-MOST-clause-wide : goal.returns-then-kept-eq-MOST-clause-wide
-returns-then-kept-eq-MOST-clause-wide c =
+pub returns-then-is_full-clause-wide : goal.returns-then-is_full-clause-wide
+returns-then-is_full-clause-wide c =
     let x = c.args.c in
     let xs = c.args.conjs.now.items in
     let alone : list_any (λ d. covers d x) xs ≡ false = ap (list_any (λ d. covers d x)) (sym c.deref.ensures.value) ∙ sym c.is_covered.ensures ∙ c.if-is_covered.false in
-    let stay : length (filter (λ d. not (covers x d)) xs) ≡ c.kept.result = ap (λ ys. length (filter (λ d. not (covers x d)) ys)) (sym c.deref-2.ensures.value) ∙ sym c.kept.ensures in
+    let stay : length (filter (λ d. not (covers x d)) xs) ≡ length (filter (λ d. not (covers x d)) c.deref-2.result.now) = ap (λ ys. length (filter (λ d. not (covers x d)) ys)) (sym c.deref-2.ensures.value) in
     let e = with_one_length x xs alone in
-    let many : 256 < length (with_one x xs) = omega (arith, e, stay, c.if-kept-eq-MOST.true) in
+    let many : 256 < length (with_one x xs) = omega (arith, e, stay, c.is_full.ensures.full c.if-is_full.true) in
     (λ _. many, λ _. refl)
 
 pub returns-in_err-try_reserve-clause-wide : goal.returns-in_err-try_reserve-clause-wide
@@ -39,10 +39,9 @@ returns-in_err-try_reserve-clause-wide c =
     let x = c.args.c in
     let xs = c.args.conjs.now.items in
     let alone : list_any (λ d. covers d x) xs ≡ false = ap (list_any (λ d. covers d x)) (sym c.deref.ensures.value) ∙ sym c.is_covered.ensures ∙ c.if-is_covered.false in
-    let stay : length (filter (λ d. not (covers x d)) xs) ≡ c.kept.result = ap (λ ys. length (filter (λ d. not (covers x d)) ys)) (sym c.deref-2.ensures.value) ∙ sym c.kept.ensures in
+    let stay : length (filter (λ d. not (covers x d)) xs) ≡ length (filter (λ d. not (covers x d)) c.deref-2.result.now) = ap (λ ys. length (filter (λ d. not (covers x d)) ys)) (sym c.deref-2.ensures.value) in
     let e = with_one_length x xs alone in
-    let k = kept_short (λ d. not (covers x d)) xs in
-    let few : length (with_one x xs) ≤ 256 = omega (arith, e, k, stay, c.requires, c.if-kept-eq-MOST.false) in
+    let few : length (with_one x xs) ≤ 256 = omega (arith, e, stay, c.is_full.ensures.room c.if-is_full.false (subst (λ (ys : List Conj). length ys ≤ 256) (sym c.deref-2.ensures.value) c.requires)) in
     let p = err_from_is_err_and c.from_residual.result c.from_residual.ensures.1 in
     narrow c.from_residual.result (length (with_one x xs)) (ap is_wide p.1 ∙ ap (λ f. is_wide (Err f)) p.2) few
 
@@ -75,7 +74,6 @@ returns-clause-wide c =
     let x = c.args.c in
     let xs = c.args.conjs.now.items in
     let alone : list_any (λ d. covers d x) xs ≡ false = ap (list_any (λ d. covers d x)) (sym c.deref.ensures.value) ∙ sym c.is_covered.ensures ∙ c.if-is_covered.false in
-    let stay : length (filter (λ d. not (covers x d)) xs) ≡ c.kept.result = ap (λ ys. length (filter (λ d. not (covers x d)) ys)) (sym c.deref-2.ensures.value) ∙ sym c.kept.ensures in
+    let stay : length (filter (λ d. not (covers x d)) xs) ≡ length (filter (λ d. not (covers x d)) c.deref-2.result.now) = ap (λ ys. length (filter (λ d. not (covers x d)) ys)) (sym c.deref-2.ensures.value) in
     let e = with_one_length x xs alone in
-    let k = kept_short (λ d. not (covers x d)) xs in
-    narrow (Ok tt) (length (with_one x xs)) refl (omega (arith, e, k, stay, c.requires, c.if-kept-eq-MOST.false))
+    narrow (Ok tt) (length (with_one x xs)) refl (omega (arith, e, stay, c.is_full.ensures.room c.if-is_full.false (subst (λ (ys : List Conj). length ys ≤ 256) (sym c.deref-2.ensures.value) c.requires)))
