@@ -178,7 +178,7 @@ has_beyond set v h w = ap (λ b. eqb b 1) (bit_at_above set 64 v h w)
 
 -- ---- a count, as code raises it
 
-get_any : (ns : List ℕ) (i m : ℕ) → i < length ns → get_or ns i m ≡ get_or ns i 0
+pub get_any : (ns : List ℕ) (i m : ℕ) → i < length ns → get_or ns i m ≡ get_or ns i 0
 get_any [] i m h = absurd (omega (arith, h))
 get_any (n ∷ ns) zero m h = refl
 get_any (n ∷ ns) (suc i) m h = get_any ns i m (omega (arith, h))

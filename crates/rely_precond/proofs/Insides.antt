@@ -1,5 +1,5 @@
 -- The walk through a choice or a loop, as code takes it apart.
-use Rattle.std.proofs.Common.{◌≡◌, ℕ, zero, suc, ◌<◌, true, false, List, [], ◌∷◌, ◌++◌, length, get_or, refl, sym, ap, subst, ◌∙◌, true≢false, arith}
+use Rattle.std.proofs.Common.{◌≡◌, ℕ, zero, suc, ◌<◌, true, false, List, ◌++◌, length, refl, sym, ap, subst, ◌∙◌, true≢false}
 use Rattle.rely_num.specs.declared.conj.Conj.{Conj}
 use Rattle.rely_num.specs.declared.span.Span.{Span}
 use Rattle.rely_kernel.specs.declared.kernel.Kernel.{Kernel}
@@ -14,6 +14,7 @@ use Rattle.rely_precond.specs.InRange.{ExprInRange, StmtInRange, BlockInRange, i
 use Rattle.rely_precond.specs.Inside.{is_idle, inside, beside}
 use Rattle.rely_precond.specs.Places.{Line, line_of, lines_of}
 use Rattle.rely_precond.specs.Walk.{and_then, stand, repeats, whiles, untouched, touched, joined, walk, walk_all}
+use Rattle.rely_precond.specs.Written.{all_sets, first_sets, second_sets}
 use Rattle.rely_precond.proofs.LineLemmas.{lines-If, lines-While, lines-Repeat}
 use Rattle.rely_precond.proofs.Turning.{joined_some, joined_none}
 
@@ -53,14 +54,6 @@ module _ (k : Kernel) (at : Span) (what : StKind) (ps : List Conj) (work : ℕ) 
 
 -- ---- numbers in range
 
-pub block_at : (k : Kernel) (body : List St) (i : ℕ) (s : St) → i < length body → s ≡ get_or body i s → BlockInRange k (block_of body) → StmtInRange k (stmt_of s.what)
-block_at k body i s h is r = subst (λ (x : St). StmtInRange k (stmt_of x.what)) (sym is) (go body i h r)
-  where
-    go : (ss : List St) (j : ℕ) → j < length ss → BlockInRange k (block_of ss) → StmtInRange k (stmt_of (get_or ss j s).what)
-    go [] j l q = absurd (omega (arith, l))
-    go (x ∷ ss) zero l q = q.0
-    go (x ∷ ss) (suc j) l q = go ss j (omega (arith, l)) q.1
-
 module _ (k : Kernel) (what : StKind) (r : StmtInRange k (stmt_of what)) where
   pub if_range : (e : Ex) (s t : List St) → what ≡ st.If e s t → ExprInRange k (expr_of e) × BlockInRange k (block_of s) × BlockInRange k (block_of t)
   if_range e s t is = subst (λ (x : Stmt). StmtInRange k x) (ap stmt_of is ∙ text-If e s t) r
@@ -92,3 +85,18 @@ module _ (k : Kernel) (at : Span) (what : StKind) (us ts : List Conj) (work : �
   repeat_beside n s body is f =
       ap (λ x. and_then (repeats at (λ q w. walk_all k (lines_of x) q w) n ts work) (λ q w. stand at (us ++ q) w)) f
       ∙ sym (ap (λ l. beside k at l us ts work) (ap line_of is ∙ lines-Repeat n s))
+
+-- ---- what is written inside
+
+module _ (what : StKind) where
+  pub if_first : (e : Ex) (s t : List St) → what ≡ st.If e s t → first_sets (stmt_of what) ≡ all_sets (block_of s)
+  if_first e s t is = ap first_sets (ap stmt_of is ∙ text-If e s t)
+
+  pub if_second : (e : Ex) (s t : List St) → what ≡ st.If e s t → second_sets (stmt_of what) ≡ all_sets (block_of t)
+  if_second e s t is = ap second_sets (ap stmt_of is ∙ text-If e s t)
+
+  pub while_first : (e : Ex) (n : ℕ) (s : List St) → what ≡ st.While e n s → first_sets (stmt_of what) ≡ all_sets (block_of s)
+  while_first e n s is = ap first_sets (ap stmt_of is ∙ text-While e n s)
+
+  pub repeat_first : (n : ℕ) (s : List St) → what ≡ st.Repeat n s → first_sets (stmt_of what) ≡ all_sets (block_of s)
+  repeat_first n s is = ap first_sets (ap stmt_of is ∙ text-Repeat n s)

@@ -3,13 +3,16 @@ pub mod Bumps
 pub mod Carried
 pub mod Claims
 pub mod Covering
+pub mod Fewer
 pub mod Grown
 pub mod Insides
 pub mod Iterated
 pub mod Joining
+pub mod Lasts
 pub mod Law
 pub mod Limits
 pub mod LineLemmas
+pub mod Marks
 pub mod OnePath
 pub mod Parts
 pub mod Plain

@@ -9,11 +9,8 @@ use Rattle.rely_num.specs.Sets.{only, union}
 use Rattle.rely_kernel.specs.declared.kernel.Kernel.{Kernel}
 use Rattle.rely_kernel.specs.Paths.{writes, all_writes}
 use Rattle.rely_kernel.specs.Text.{Stmt, Block, done, ◌then◌, stmt_of, block_of}
-use Rattle.rely_kernel.specs.declared.kernel.Ex.{Ex}
 use Rattle.rely_kernel.specs.declared.kernel.St.{St}
 use Rattle.rely_kernel.specs.declared.kernel.StKind.{StKind}
-use Rattle.rely_kernel.specs.declared.kernel.StKind.TheVariants as st
-use Rattle.rely_kernel.proofs.TextLemmas.{text-If, text-While, text-Repeat}
 use Rattle.rely_precond.specs.InRange.{StmtInRange, BlockInRange}
 
 -- a variable whose set is a number of 64 bits
@@ -54,33 +51,9 @@ union_twice a b c = same_from_bits (union (union a b) c) (union a (union b c)) (
 
 -- ---- statements as code takes them apart
 
-pub writes-If : (c : Ex) (s t : List St) → writes (stmt_of (st.If c s t)) ≡ union (all_writes (block_of s)) (all_writes (block_of t))
-writes-If c s t = ap writes (text-If c s t)
-
-pub writes-While : (c : Ex) (n : ℕ) (s : List St) → writes (stmt_of (st.While c n s)) ≡ all_writes (block_of s)
-writes-While c n s = ap writes (text-While c n s)
-
-pub writes-Repeat : (n : ℕ) (s : List St) → writes (stmt_of (st.Repeat n s)) ≡ all_writes (block_of s)
-writes-Repeat n s = ap writes (text-Repeat n s)
-
 module _ (what : StKind) (fits : writes (stmt_of what) < 2 ^ 64) where
   pub target_below : (v : ℕ) → writes (stmt_of what) ≡ only v → v < 64
   target_below v is = only_below v (subst (λ (n : ℕ). n < 2 ^ 64) is fits)
-
-  pub first_fits : (c : Ex) (s t : List St) → what ≡ st.If c s t → all_writes (block_of s) < 2 ^ 64
-  first_fits c s t is =
-      let e : writes (stmt_of what) ≡ union (all_writes (block_of s)) (all_writes (block_of t)) = ap (λ w. writes (stmt_of w)) is ∙ writes-If c s t in
-      let l = le_or_l (all_writes (block_of s)) (all_writes (block_of t)) in
-      omega arith
-
-  pub second_fits : (c : Ex) (s t : List St) → what ≡ st.If c s t → all_writes (block_of t) < 2 ^ 64
-  second_fits c s t is =
-      let e : writes (stmt_of what) ≡ union (all_writes (block_of s)) (all_writes (block_of t)) = ap (λ w. writes (stmt_of w)) is ∙ writes-If c s t in
-      let l = le_or_r (all_writes (block_of s)) (all_writes (block_of t)) in
-      omega arith
-
-  pub body_fits : (s : List St) → writes (stmt_of what) ≡ all_writes (block_of s) → all_writes (block_of s) < 2 ^ 64
-  body_fits s is = subst (λ (n : ℕ). n < 2 ^ 64) is fits
 
 -- ---- a block from one of its statements on
 

@@ -1,16 +1,12 @@
 -- The walk, step by step as the code takes it.
-use Rattle.std.proofs.Common.{◌≡◌, ℕ, zero, suc, ◌+◌, ◌-◌, ◌<◌, ◌≤◌, Bool, List, [], ◌∷◌, ◌++◌, map, length, drop, get_or, Option, Some, None, refl, sym, ap, subst, ◌∙◌, arith}
-use Rattle.std.proofs.lemmas.List.{drop_more}
+use Rattle.std.proofs.Common.{◌≡◌, ℕ, zero, suc, ◌-◌, ◌<◌, Bool, List, [], ◌∷◌, ◌++◌, map, length, Option, Some, None, refl, sym, ap, subst, ◌∙◌, arith}
 use Rattle.rely_num.specs.declared.conj.Conj.{Conj}
 use Rattle.rely_num.specs.declared.span.Span.{Span}
-use Rattle.rely_kernel.specs.declared.kernel.Kernel.{Kernel}
-use Rattle.rely_kernel.specs.declared.kernel.St.{St}
 use Rattle.rely_predicate.specs.Shift.{shift}
 use Rattle.rely_precond.specs.declared.fault.PreFault.{PreFault}
 use Rattle.rely_precond.specs.declared.fault.PreFault.TheVariants as fault
 use Rattle.rely_precond.specs.Answers.{IsStop}
-use Rattle.rely_precond.specs.Places.{line_of, lines_of}
-use Rattle.rely_precond.specs.Walk.{Walked, Stands, and_then, stand, multiply, go_on, repeats, all_covered, settled, whiles, joined, walk, walk_all}
+use Rattle.rely_precond.specs.Walk.{Walked, Stands, and_then, stand, multiply, go_on, repeats, all_covered, settled, whiles, joined}
 
 -- ---- one step and then the next
 
@@ -33,32 +29,6 @@ joined_some at us (t ∷ ts) become work h = refl
 pub joined_none : (at : Span) (us ts : List Conj) (become : List Conj → ℕ → Walked) (work : ℕ) → length ts ≡ 0 → joined at us ts become work ≡ stand at us work
 joined_none at us [] become work h = refl
 joined_none at us (t ∷ ts) become work h = absurd (omega (arith, h))
-
--- ---- a text, from its last statement on
-
-pub from_here : (k : Kernel) (ss : List St) (i : ℕ) (s : St) (ps : List Conj) (work : ℕ) → i < length ss → s ≡ get_or ss i s
-    → walk_all k (lines_of (drop i ss)) ps work ≡ and_then (walk_all k (lines_of (drop (i + 1) ss)) ps work) (λ p w. walk k s.at (line_of s.what) p w)
-from_here k ss i s ps work h is = ap (λ xs. walk_all k (lines_of xs) ps work) (drop_more ss i s h ∙ ap (λ x. x ∷ drop (i + 1) ss) (sym is))
-
--- a stop in the last statements is the stop of the text
-pub walk_all_cut : (k : Kernel) (ss : List St) (i : ℕ) (ps : List Conj) (work : ℕ) (f : PreFault) → IsStop (walk_all k (lines_of (drop i ss)) ps work) f → IsStop (walk_all k (lines_of ss) ps work) f
-walk_all_cut k ss zero ps work f h = h
-walk_all_cut k [] (suc i) ps work f h = h
-walk_all_cut k (s ∷ ss) (suc i) ps work f h = then_stops (walk_all k (lines_of ss) ps work) f (λ p w. walk k s.at (line_of s.what) p w) (walk_all_cut k ss i ps work f h)
-
-module _ (k : Kernel) (ss : List St) (i : ℕ) (s : St) (ps : List Conj) (work : ℕ) (p : List Conj) (w : ℕ) (some : 0 < i) (within : i ≤ length ss) (is : s ≡ get_or ss (i - 1) s)
-    (so_far : walk_all k (lines_of (drop i ss)) ps work ≡ Stands p w) where
-  step_is : walk_all k (lines_of (drop (i - 1) ss)) ps work ≡ walk k s.at (line_of s.what) p w
-  step_is =
-      let n : i - 1 + 1 ≡ i = omega arith in
-      from_here k ss (i - 1) s ps work (omega arith) is
-      ∙ then_goes (walk_all k (lines_of (drop (i - 1 + 1) ss)) ps work) p w (λ q v. walk k s.at (line_of s.what) q v) (ap (λ m. walk_all k (lines_of (drop m ss)) ps work) n ∙ so_far)
-
-  pub one_stops : (f : PreFault) → IsStop (walk k s.at (line_of s.what) p w) f → IsStop (walk_all k (lines_of ss) ps work) f
-  one_stops f h = walk_all_cut k ss (i - 1) ps work f (stop_as (walk k s.at (line_of s.what) p w) (walk_all k (lines_of (drop (i - 1) ss)) ps work) f (sym step_is) h)
-
-  pub one_goes : (q : List Conj) (v : ℕ) → walk k s.at (line_of s.what) p w ≡ Stands q v → walk_all k (lines_of (drop (i - 1) ss)) ps work ≡ Stands q v
-  one_goes q v h = step_is ∙ h
 
 -- ---- what is left after a turn
 

@@ -1,5 +1,5 @@
 -- How much text a walk has before it: each call of the code has less.
-use Rattle.std.proofs.Common.{◌≡◌, ℕ, zero, suc, ◌+◌, ◌<◌, List, [], ◌∷◌, length, get_or, sym, ap, subst, ◌∙◌, arith}
+use Rattle.std.proofs.Common.{◌≡◌, ℕ, suc, ◌+◌, List, ap, ◌∙◌}
 use Rattle.rely_kernel.specs.declared.kernel.Ex.{Ex}
 use Rattle.rely_kernel.specs.declared.kernel.St.{St}
 use Rattle.rely_kernel.specs.declared.kernel.StKind.{StKind}
@@ -29,11 +29,3 @@ weight-While what e n s is = ap weight (ap line_of is ∙ lines-While e n s)
 
 pub weight-Repeat : (what : StKind) (n : ℕ) (s : List St) → what ≡ st.Repeat n s → weight (line_of what) ≡ weights (lines_of s)
 weight-Repeat what n s is = ap weight (ap line_of is ∙ lines-Repeat n s)
-
-pub weight_at : (body : List St) (i : ℕ) (s : St) → i < length body → s ≡ get_or body i s → weight (line_of s.what) < weights (lines_of body)
-weight_at body i s h is = subst (λ (x : St). weight (line_of x.what) < weights (lines_of body)) (sym is) (go body i h)
-  where
-    go : (ss : List St) (j : ℕ) → j < length ss → weight (line_of (get_or ss j s).what) < weights (lines_of ss)
-    go [] j l = absurd (omega (arith, l))
-    go (x ∷ ss) zero l = omega arith
-    go (x ∷ ss) (suc j) l = let r = go ss j (omega (arith, l)) in omega arith

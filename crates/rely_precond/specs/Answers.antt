@@ -1,5 +1,5 @@
 -- What the answers to a claim say of its walk.
-use Rattle.std.specs.Prelude.{◌≡◌, ℕ, ◌<◌, ◌^◌, ◌⊎◌, true, List, length, IsTrue, nat_le}
+use Rattle.std.specs.Prelude.{◌≡◌, ℕ, ◌<◌, ◌^◌, ◌⊎◌, true, false, List, length, IsTrue, nat_le}
 use Rattle.std.specs.List.{All, list_any}
 use Rattle.rely_num.specs.declared.conj.Conj.{Conj}
 use Rattle.rely_kernel.specs.declared.kernel.Kernel.{Kernel}
@@ -23,6 +23,10 @@ IsStop w (fault.Wide at) = w ≡ Stops Wide at
 IsStop w (fault.Count at) = w ≡ Stops Count at
 IsStop w (fault.Work at) = w ≡ Stops Work at
 IsStop w fault.Memory = Unit {0}
+
+-- no count reaches 2^36
+abbrev pub AreFew : List ℕ → Type 0
+AreFew counts = list_any (nat_le (2 ^ 36)) counts ≡ false
 
 -- a count of the conjunct reaches 2^36
 pub record IsOver (c : Conj) : Type 0 where

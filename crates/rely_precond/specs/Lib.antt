@@ -2,6 +2,8 @@ pub mod Answers
 pub mod Covering
 pub mod InRange
 pub mod Inside
+pub mod Lasts
 pub mod Places
 pub mod Prefixes
 pub mod Walk
+pub mod Written

@@ -8,14 +8,14 @@ ghost use Rattle.rely_kernel.specs.Text.{expr_of, exprs_of, stmt_of};
 ghost use Rattle.rely_kernel.specs.Valid.{IsValid};
 ghost use Rattle.rely_kernel.specs.declared.label.Label.TheVariants as label;
 ghost use Rattle.rely_loops.specs.Grown.{too_many};
-ghost use Rattle.rely_precond.specs.Answers.{IsOver};
+ghost use Rattle.rely_precond.specs.Answers.{AreFew, IsOver};
 ghost use Rattle.rely_precond.specs.InRange.{ExprInRange, StmtInRange, is_plain};
 
 use rely_kernel::{Ex, Kernel, Label, StKind};
 use rely_num::{Conj, List, VarSet};
 
 /// The most that a label is counted.
-pub(crate) const MOST_COUNT: u64 = (1 << 36) - 1;
+const MOST_COUNT: u64 = (1 << 36) - 1;
 
 fn number(k: &Kernel, label: Label) -> usize
     requires { IsValid k.now }
@@ -32,8 +32,10 @@ fn number(k: &Kernel, label: Label) -> usize
 
 // One more of a label.
 fn count(k: &Kernel, label: Label, c: Conj) -> Option<Conj>
-    requires { IsValid k.now }
+    requires valid { IsValid k.now }
+    requires few { AreFew c.counts }
     ensures counted { IfSome result (λ d. d ≡ count k.now label c) }
+    ensures few { IfSome result (λ d. AreFew d.counts) }
     ensures full { IsNone result → IsOver (count k.now label c) }
 {
     let i = number(k, label);
@@ -54,6 +56,8 @@ fn count(k: &Kernel, label: Label, c: Conj) -> Option<Conj>
 fn read(k: &Kernel, v: u32, c: Conj) -> Option<Conj>
     requires valid { IsValid k.now }
     requires in_range { v < length k.now.vars }
+    requires few { AreFew c.counts }
+    ensures few { IfSome result (λ d. AreFew d.counts) }
     ensures counted { IfSome result (λ d. d ≡ count k.now (label.Read v) (name v c)) }
     ensures full { IsNone result → IsOver (count k.now (label.Read v) (name v c)) }
 {
@@ -72,6 +76,8 @@ fn read(k: &Kernel, v: u32, c: Conj) -> Option<Conj>
 fn write(k: &Kernel, v: u32, c: Conj) -> Option<Conj>
     requires valid { IsValid k.now }
     requires in_range { v < length k.now.vars }
+    requires few { AreFew c.counts }
+    ensures few { IfSome result (λ d. AreFew d.counts) }
     ensures counted { IfSome result (λ d. d ≡ count k.now (label.Write v) (forget v c)) }
     ensures full { IsNone result → IsOver (count k.now (label.Write v) (forget v c)) }
 {
@@ -90,6 +96,8 @@ fn write(k: &Kernel, v: u32, c: Conj) -> Option<Conj>
 pub(crate) fn use_of(k: &Kernel, e: &Ex, c: Conj) -> Option<Conj>
     requires valid { IsValid k.now }
     requires in_range { ExprInRange k.now (expr_of e.now) }
+    requires few { AreFew c.counts }
+    ensures few { IfSome result (λ d. AreFew d.counts) }
     ensures counted { IfSome result (λ d. d ≡ use_of k.now (expr_of e.now) c) }
     ensures full { IsNone result → IsOver (use_of k.now (expr_of e.now) c) }
 {
@@ -112,6 +120,8 @@ pub(crate) fn use_of(k: &Kernel, e: &Ex, c: Conj) -> Option<Conj>
 fn uses_of(k: &Kernel, needs: VarSet, es: &[Ex], c: Conj) -> Option<Conj>
     requires valid { IsValid k.now }
     requires in_range { AllByRecursion (ExprInRange k.now) (exprs_of es.now) }
+    requires few { AreFew c.counts }
+    ensures few { IfSome result (λ d. AreFew d.counts) }
     ensures counted { IfSome result (λ d. d ≡ uses_of k.now needs.bits 0 (exprs_of es.now) c) }
     ensures full { IsNone result → IsOver (uses_of k.now needs.bits 0 (exprs_of es.now) c) }
 {
@@ -131,6 +141,8 @@ pub(crate) fn through(k: &Kernel, what: &StKind, c: Conj) -> Option<Conj>
     requires valid { IsValid k.now }
     requires in_range { StmtInRange k.now (stmt_of what.now) }
     requires plain { IsTrue (is_plain (stmt_of what.now)) }
+    requires few { AreFew c.counts }
+    ensures few { IfSome result (λ d. AreFew d.counts) }
     ensures path { IfSome result (λ d. paths k.now (stmt_of what.now) c ≡ d ∷ []) }
     ensures full { IsNone result → IsTrue (too_many (paths k.now (stmt_of what.now) c)) }
 {

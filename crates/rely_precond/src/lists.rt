@@ -1,22 +1,23 @@
 //! Lists of conjuncts: copies of those of a predicate, and what a step of the walk makes of them.
-ghost use Rattle.std.specs.Prelude.{◌≡◌, ◌-◌, ◌^◌, ◌++◌, [], ◌∷◌, bit_and, ◌==◌, not, filter, map, length, IfErr, IfOk, IfSome, IsNone, IsTrue};
+ghost use Rattle.std.specs.Prelude.{◌≡◌, ◌-◌, ◌^◌, ◌++◌, [], ◌∷◌, bit_and, ◌==◌, false, not, filter, map, length, IfErr, IfOk, IfSome, IsNone, IsTrue};
 ghost use Rattle.std.specs.List.{list_all};
 ghost use Rattle.rely_kernel.specs.Machine.{parameters};
 ghost use Rattle.rely_kernel.specs.Paths.{writes, skips, past, paths, use_of, at_start};
 ghost use Rattle.rely_kernel.specs.Text.{expr_of, stmt_of};
 ghost use Rattle.rely_kernel.specs.Valid.{IsValid};
 ghost use Rattle.rely_loops.specs.Grown.{too_many};
-ghost use Rattle.rely_precond.specs.Answers.{IsFull};
+ghost use Rattle.rely_precond.specs.Answers.{AreFew, IsFull};
 ghost use Rattle.rely_precond.specs.InRange.{ExprInRange, StmtInRange, is_plain};
 ghost use Rattle.rely_precond.specs.Places.{line_of};
 ghost use Rattle.rely_precond.specs.Walk.{changed};
 
 use crate::fault::PreFault;
 use crate::growth::{through, use_of};
-use crate::written::written;
+use crate::written::Marked;
 use rely_kernel::{Ex, Kernel, StKind};
 use rely_num::{Conj, List, Span, VarSet};
 use std::alloc::Global;
+use std::mem::replace;
 
 fn copy(alloc: Global, c: &Conj) -> Result<Conj, PreFault>
     ensures ok { IfOk result (λ d. d ≡ c.now) }
@@ -101,6 +102,9 @@ pub(crate) fn with_tested(
 ) -> Result<Vec<Conj>, PreFault>
     requires valid { IsValid k.now }
     requires in_range { ExprInRange k.now (expr_of e.now) }
+    requires some { too_many list.items ≡ false }
+    requires few { too_many conjs.now ≡ false }
+    ensures few { IfOk result (λ longer. too_many longer.items ≡ false) }
     ensures ok { IfOk result (λ longer. longer.items ≡ list.items ++ map (use_of k.now (expr_of e.now)) conjs.now) }
     ensures err { IfErr result (λ f. IsFull at (map (use_of k.now (expr_of e.now)) conjs.now) f) }
 {
@@ -120,6 +124,8 @@ fn past(k: &Kernel, what: &StKind, written: VarSet, c: Conj) -> Option<Conj>
     requires in_range { StmtInRange k.now (stmt_of what.now) }
     requires plain { IsTrue (is_plain (stmt_of what.now)) }
     requires written { written.bits ≡ writes (stmt_of what.now) }
+    requires few { AreFew c.counts }
+    ensures few { IfSome result (λ d. AreFew d.counts) }
     ensures path { IfSome result (λ d. past (skips (stmt_of what.now) c) (paths k.now (stmt_of what.now)) c ≡ d ∷ []) }
     ensures full { IsNone result → IsTrue (too_many (past (skips (stmt_of what.now) c) (paths k.now (stmt_of what.now)) c)) }
 {
@@ -129,29 +135,38 @@ fn past(k: &Kernel, what: &StKind, written: VarSet, c: Conj) -> Option<Conj>
     through(k, what, c)
 }
 
-/// What a statement that is neither a choice nor a loop makes of each conjunct.
+/// What a statement that is neither a choice nor a loop makes of each conjunct, in the memory of the list.
 pub(crate) fn changed(
     alloc: Global,
     k: &Kernel,
-    at: Span,
-    what: &StKind,
+    statement: &Marked,
     conjs: Vec<Conj>,
 ) -> Result<Vec<Conj>, PreFault>
     requires valid { IsValid k.now }
-    requires in_range { StmtInRange k.now (stmt_of what.now) }
-    requires plain { IsTrue (is_plain (stmt_of what.now)) }
-    ensures ok { IfOk result (λ list. list.items ≡ changed k.now (line_of what.now) conjs.items) }
-    ensures err { IfErr result (λ f. IsFull at (changed k.now (line_of what.now) conjs.items) f) }
+    requires in_range { StmtInRange k.now (stmt_of statement.now.what.now) }
+    requires plain { IsTrue (is_plain (stmt_of statement.now.what.now)) }
+    requires few { too_many conjs.items ≡ false }
+    ensures ok { IfOk result (λ list. list.items ≡ changed k.now (line_of statement.now.what.now) conjs.items) }
+    ensures few { IfOk result (λ list. too_many list.items ≡ false) }
+    ensures err { IfErr result (λ f. IsFull statement.now.at (changed k.now (line_of statement.now.what.now) conjs.items) f) }
 {
-    let written = written(what);
-    let mut list = Vec::new(alloc);
-    for c in conjs {
-        let Some(next) = past(k, what, written, c) else {
-            return Err(PreFault::Count(at));
+    let mut list = conjs;
+    for i in 0..list.len() {
+        let c = replace(&mut list[i], nothing(alloc));
+        let Some(next) = past(k, statement.what, statement.written, c) else {
+            return Err(PreFault::Count(statement.at));
         };
-        list.push(next)?;
+        list[i] = next;
     }
     Ok(list)
+}
+
+// Nothing counted and no variable. It takes no memory.
+fn nothing(alloc: Global) -> Conj {
+    Conj {
+        counts: List::from_vec(Vec::new(alloc)),
+        vars: VarSet::EMPTY,
+    }
 }
 
 /// The conjuncts with only the parameters kept of their variables.

@@ -8,6 +8,7 @@ use crate::fault::PreFault;
 use crate::lists::at_start;
 use crate::standing::{Listed, of_few};
 use crate::statement::walk_all;
+use crate::written::{Text, sets_of};
 use rely_kernel::{Claim, Kernel, labels};
 use rely_num::{Conj, List, VarSet};
 use rely_predicate::Predicate;
@@ -29,7 +30,12 @@ pub fn generate(alloc: Global, k: &Kernel, c: &Claim) -> Result<Predicate, PreFa
         list: of_few(alloc, labels(k), claimed)?,
         work: 0,
     };
-    let walked = walk_all(alloc, k, k.body.as_slice(), listed)?;
+    let sets = sets_of(alloc, k.body.as_slice())?;
+    let text = Text {
+        body: k.body.as_slice(),
+        sets: &sets,
+    };
+    let walked = walk_all(alloc, k, text, listed)?;
     let list = at_start(alloc, k, walked.list.conjs())?;
     of_few(alloc, labels(k), list)
 }

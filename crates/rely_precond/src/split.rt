@@ -1,9 +1,10 @@
 //! The conjuncts of which a statement writes something, and the others.
-ghost use Rattle.std.specs.Prelude.{◌≡◌, ◌<◌, ◌^◌, ◌++◌, bit_and, ◌==◌, not, map, filter, length, IfErr, IfOk};
+ghost use Rattle.std.specs.Prelude.{◌≡◌, false, ◌<◌, ◌^◌, ◌++◌, bit_and, ◌==◌, not, map, filter, length, IfErr, IfOk};
 ghost use Rattle.std.specs.List.{All};
 ghost use Rattle.rely_kernel.specs.Paths.{writes, use_of};
 ghost use Rattle.rely_kernel.specs.Text.{expr_of, stmt_of};
 ghost use Rattle.rely_kernel.specs.Valid.{IsValid};
+ghost use Rattle.rely_loops.specs.Grown.{too_many};
 ghost use Rattle.rely_precond.specs.Answers.{IsStop};
 ghost use Rattle.rely_precond.specs.InRange.{ExprInRange};
 ghost use Rattle.rely_precond.specs.Places.{line_of};
@@ -12,7 +13,7 @@ ghost use Rattle.rely_precond.specs.Walk.{Stands, stand, untouched, touched};
 use crate::fault::PreFault;
 use crate::lists::{touched, untouched, with_copies, with_tested};
 use crate::standing::{Listed, of_few, stand};
-use crate::written::written;
+use crate::written::Marked;
 use rely_kernel::{Ex, Kernel, StKind};
 use rely_num::{Conj, Span, VarSet};
 use rely_predicate::Predicate;
@@ -22,20 +23,23 @@ use std::alloc::Global;
 #[derive(Drop)]
 pub(crate) struct Parts {
     pub(crate) others: Vec<Conj>,
-    pub(crate) own: Predicate,
+    pub(crate) own: Listed,
 }
 
-pub(crate) fn split(alloc: Global, what: &StKind, list: &Predicate) -> Result<Parts, PreFault>
-    requires { writes (stmt_of what.now) < 2 ^ 64 }
-    ensures others { IfOk result (λ s. s.others.items ≡ untouched (line_of what.now) list.now.conjs) }
-    ensures own { IfOk result (λ s. s.own.conjs ≡ touched (line_of what.now) list.now.conjs) }
-    ensures labels { IfOk result (λ s. s.own.labels ≡ list.now.labels) }
-    ensures counted { IfOk result (λ s. All (λ c. length c.counts ≡ list.now.labels) s.others.items) }
+pub(crate) fn split(alloc: Global, statement: &Marked, listed: &Listed) -> Result<Parts, PreFault>
+    ensures others { IfOk result (λ s. s.others.items ≡ untouched (line_of statement.now.what.now) listed.now.list.conjs) }
+    ensures few { IfOk result (λ s. too_many s.others.items ≡ false) }
+    ensures own { IfOk result (λ s. s.own.list.conjs ≡ touched (line_of statement.now.what.now) listed.now.list.conjs) }
+    ensures work { IfOk result (λ s. s.own.work ≡ listed.now.work) }
+    ensures labels { IfOk result (λ s. s.own.list.labels ≡ listed.now.list.labels) }
+    ensures counted { IfOk result (λ s. All (λ c. length c.counts ≡ listed.now.list.labels) s.others.items) }
     ensures err { IfErr result (λ f. f ≡ PreFault.Memory) }
 {
-    let written = written(what);
-    let others = untouched(alloc, written, list.conjs())?;
-    let own = own(alloc, written, list)?;
+    let others = untouched(alloc, statement.written, listed.list.conjs())?;
+    let own = Listed {
+        list: own(alloc, statement.written, &listed.list)?,
+        work: listed.work,
+    };
     Ok(Parts { others, own })
 }
 
@@ -64,7 +68,8 @@ pub(crate) fn stand_turned(
     others: Vec<Conj>,
     turned: Listed,
 ) -> Result<Listed, PreFault>
-    requires { All (λ c. length c.counts ≡ turned.list.labels) others.items }
+    requires counted { All (λ c. length c.counts ≡ turned.list.labels) others.items }
+    requires few { too_many others.items ≡ false }
     ensures ok { IfOk result (λ l. stand at (others.items ++ turned.list.conjs) turned.work ≡ Stands l.list.conjs l.work) }
     ensures labels { IfOk result (λ l. l.list.labels ≡ turned.list.labels) }
     ensures refused { IfErr result (λ f. IsStop (stand at (others.items ++ turned.list.conjs) turned.work) f) }
@@ -80,20 +85,21 @@ pub(crate) fn stand_branches(
     at: Span,
     e: &Ex,
     others: Vec<Conj>,
-    first: &Predicate,
+    first: &Listed,
     second: Listed,
 ) -> Result<Listed, PreFault>
     requires valid { IsValid k.now }
     requires condition { ExprInRange k.now (expr_of e.now) }
     requires others { All (λ c. length c.counts ≡ second.list.labels) others.items }
-    requires labels { first.now.labels ≡ second.list.labels }
-    ensures ok { IfOk result (λ l. stand at (others.items ++ map (use_of k.now (expr_of e.now)) (first.now.conjs ++ second.list.conjs)) second.work
+    requires few { too_many others.items ≡ false }
+    requires labels { first.now.list.labels ≡ second.list.labels }
+    ensures ok { IfOk result (λ l. stand at (others.items ++ map (use_of k.now (expr_of e.now)) (first.now.list.conjs ++ second.list.conjs)) second.work
         ≡ Stands l.list.conjs l.work) }
     ensures labels { IfOk result (λ l. l.list.labels ≡ second.list.labels) }
     ensures refused { IfErr result (λ f. IsStop
-        (stand at (others.items ++ map (use_of k.now (expr_of e.now)) (first.now.conjs ++ second.list.conjs)) second.work) f) }
+        (stand at (others.items ++ map (use_of k.now (expr_of e.now)) (first.now.list.conjs ++ second.list.conjs)) second.work) f) }
 {
-    let list = with_tested(alloc, k, at, e, others, first.conjs())?;
+    let list = with_tested(alloc, k, at, e, others, first.list.conjs())?;
     let list = with_tested(alloc, k, at, e, list, second.list.conjs())?;
     stand(alloc, second.list.shape(), at, list, second.work)
 }

@@ -1,5 +1,5 @@
 //! Lists that stand after a step of the walk, and the three limits that keep them from it.
-ghost use Rattle.std.specs.Prelude.{◌≡◌, ◌≤◌, ◌^◌, [], length, nat_le, IfErr, IfOk, Some, None};
+ghost use Rattle.std.specs.Prelude.{◌≡◌, false, ◌≤◌, ◌^◌, [], length, nat_le, IfErr, IfOk, Some, None};
 ghost use Rattle.std.specs.List.{All, list_any};
 ghost use Rattle.rely_loops.specs.Grown.{too_many};
 ghost use Rattle.rely_predicate.specs.Top.{top};
@@ -7,32 +7,19 @@ ghost use Rattle.rely_precond.specs.Answers.{IsStop};
 ghost use Rattle.rely_precond.specs.Walk.{Stands, added, worked, stand};
 
 use crate::fault::PreFault;
-use crate::growth::MOST_COUNT;
 use rely_num::{Conj, Span};
 use rely_predicate::{PredFault, Predicate};
 use std::alloc::Global;
 
-/// A predicate on its way, and the work so far.
+/// A predicate on its way, no count of which reaches 2^36, and the work so far.
 #[derive(Drop)]
 pub(crate) struct Listed {
     pub(crate) list: Predicate,
     pub(crate) work: u64,
+    ghost few: { too_many list.conjs ≡ false },
 }
 
 const MOST_WORK: u64 = 1 << 24;
-
-/// Whether a count reaches 2^36.
-pub(crate) fn are_too_many(conjs: &[Conj]) -> bool
-    ensures { result ≡ too_many conjs.now }
-{
-    conjs.iter().any(|c| has_too_many(c.counts.as_slice()))
-}
-
-fn has_too_many(counts: &[u64]) -> bool
-    ensures { result ≡ list_any (nat_le (2 ^ 36)) counts.now }
-{
-    counts.iter().any(|n| *n > MOST_COUNT)
-}
 
 // A predicate with the conjuncts of a list, added one by one. One alone is a predicate as it stands.
 fn gathered(alloc: Global, labels: u32, list: Vec<Conj>) -> Result<Predicate, PredFault>
@@ -68,6 +55,8 @@ pub(crate) fn of_few(alloc: Global, labels: u32, list: Vec<Conj>) -> Result<Pred
 
 /// The work grows by the square of the number of conjuncts.
 pub(crate) fn worked(at: Span, list: Predicate, work: u64) -> Result<Listed, PreFault>
+    requires { too_many list.conjs ≡ false }
+    ensures again { stand at list.conjs work ≡ worked at (Some list.conjs) work }
     ensures ok { IfOk result (λ l. worked at (Some list.conjs) work ≡ Stands l.list.conjs l.work) }
     ensures labels { IfOk result (λ l. l.list.labels ≡ list.labels) }
     ensures refused { IfErr result (λ f. IsStop (worked at (Some list.conjs) work) f) }
@@ -88,14 +77,12 @@ pub(crate) fn stand(
     list: Vec<Conj>,
     work: u64,
 ) -> Result<Listed, PreFault>
-    requires { All (λ c. length c.counts ≡ labels) list.items }
+    requires counted { All (λ c. length c.counts ≡ labels) list.items }
+    requires few { too_many list.items ≡ false }
     ensures ok { IfOk result (λ l. stand at list.items work ≡ Stands l.list.conjs l.work) }
     ensures labels { IfOk result (λ l. l.list.labels ≡ labels) }
     ensures refused { IfErr result (λ f. IsStop (stand at list.items work) f) }
 {
-    if are_too_many(&list) {
-        return Err(PreFault::Count(at));
-    }
     match gathered(alloc, labels, list) {
         Ok(p) => worked(at, p, work),
         Err(PredFault::Memory) => Err(PreFault::Memory),
@@ -109,8 +96,5 @@ pub(crate) fn stand_again(at: Span, listed: Listed) -> Result<Listed, PreFault>
     ensures labels { IfOk result (λ l. l.list.labels ≡ listed.list.labels) }
     ensures refused { IfErr result (λ f. IsStop (stand at listed.list.conjs listed.work) f) }
 {
-    if are_too_many(listed.list.conjs()) {
-        return Err(PreFault::Count(at));
-    }
     worked(at, listed.list, listed.work)
 }

@@ -1,9 +1,10 @@
 //! When the turns of a loop grow alike, and what is left of them in one step.
-ghost use Rattle.std.specs.Prelude.{◌≡◌, ◌++◌, ◌||◌, map, nat_lt, not, length, IfErr, IfOk, IfSome, Some};
+ghost use Rattle.std.specs.Prelude.{◌≡◌, ◌++◌, ◌||◌, false, map, nat_lt, not, length, IfErr, IfOk, IfSome, Some};
 ghost use Rattle.std.specs.List.{All, list_any};
 ghost use Rattle.rely_kernel.specs.Paths.{use_of};
 ghost use Rattle.rely_kernel.specs.Text.{expr_of};
 ghost use Rattle.rely_kernel.specs.Valid.{IsValid};
+ghost use Rattle.rely_loops.specs.Grown.{too_many};
 ghost use Rattle.rely_predicate.specs.Shift.{shift};
 ghost use Rattle.rely_predicate.specs.Top.{covers};
 ghost use Rattle.rely_precond.specs.Answers.{IsStop};
@@ -94,6 +95,7 @@ pub(crate) fn turn_while(
     requires valid { IsValid k.now }
     requires condition { ExprInRange k.now (expr_of e.now) }
     requires behind { All (λ c. length c.counts ≡ through.list.labels) behind.now }
+    requires few { too_many behind.now ≡ false }
     ensures ok { IfOk result (λ turn. stand at (map (use_of k.now (expr_of e.now)) (through.list.conjs ++ behind.now)) through.work
         ≡ Stands turn.listed.list.conjs turn.listed.work) }
     ensures covered { IfOk result (λ turn. turn.is_covered

@@ -18,7 +18,7 @@ returns-in_err-c-in-Elem-clause-full t c = λ _. elem_over c.args.k.now c.args.e
 pub use_of-requires : goal.use_of-requires
 use_of-requires t c = (
   search (rules, the_lemmas),
-  (c.requires.valid, (range-Elem c.args.k.now c.args.e.now c.in-Elem.a c.get.result.now (c.in-Elem.is ∙ ap (λ i. ex.Elem c.in-Elem.a i) (sym c.get.ensures)) c.requires.in_range).1),
+  (c.requires.valid, ((range-Elem c.args.k.now c.args.e.now c.in-Elem.a c.get.result.now (c.in-Elem.is ∙ ap (λ i. ex.Elem c.in-Elem.a i) (sym c.get.ensures)) c.requires.in_range).1, c.in_ok-c-in-Elem.ensures.few)),
 )
 
 pub returns-in_err-c-in-Bin-clause-full : goal.returns-in_err-c-in-Bin-clause-full
@@ -27,7 +27,7 @@ returns-in_err-c-in-Bin-clause-full t c = λ _. bin_over_early c.args.k.now c.ar
 pub use_of-requires-in-Bin : goal.use_of-requires-in-Bin
 use_of-requires-in-Bin t c = (
   search (rules, the_lemmas),
-  (c.requires.valid, (range-Bin c.args.k.now c.args.e.now c.in-Bin.site c.in-Bin.x c.get-in-Bin.result.now (c.in-Bin.is ∙ ap (λ y. ex.Bin c.in-Bin.site c.in-Bin.x y) (sym c.get-in-Bin.ensures)) c.requires.in_range).1),
+  (c.requires.valid, ((range-Bin c.args.k.now c.args.e.now c.in-Bin.site c.in-Bin.x c.get-in-Bin.result.now (c.in-Bin.is ∙ ap (λ y. ex.Bin c.in-Bin.site c.in-Bin.x y) (sym c.get-in-Bin.ensures)) c.requires.in_range).1, c.in_ok-c-in-Bin.ensures.few)),
 )
 
 pub returns-in_err-c-in-Bin-2-clause-full : goal.returns-in_err-c-in-Bin-2-clause-full
@@ -39,7 +39,7 @@ returns-in_err-c-in-Bin-2-clause-full t c =
 pub use_of-requires-in-Bin-2 : goal.use_of-requires-in-Bin-2
 use_of-requires-in-Bin-2 t c = (
   search (rules, the_lemmas),
-  (c.requires.valid, (range-Bin c.args.k.now c.args.e.now c.in-Bin.site c.get-in-Bin-2.result.now c.in-Bin.y (c.in-Bin.is ∙ ap (λ x. ex.Bin c.in-Bin.site x c.in-Bin.y) (sym c.get-in-Bin-2.ensures)) c.requires.in_range).0),
+  (c.requires.valid, ((range-Bin c.args.k.now c.args.e.now c.in-Bin.site c.get-in-Bin-2.result.now c.in-Bin.y (c.in-Bin.is ∙ ap (λ x. ex.Bin c.in-Bin.site x c.in-Bin.y) (sym c.get-in-Bin-2.ensures)) c.requires.in_range).0, c.in_ok-c-in-Bin-2.ensures.few)),
 )
 
 pub returns-in_ok-c-in-Elem-clause-counted : goal.returns-in_ok-c-in-Elem-clause-counted

@@ -15,6 +15,10 @@ pub loop-i-preserved : goal.loop-i-preserved
 loop-i-preserved c =
     let within : c.loop-i.i - 1 ≤ length c.args.es.now = omega (arith, c.loop-i.invariant.within) in
     record {
+      few = elim c.else-i-lt64.branch [
+        | else-i-lt64-via-then-i-lt64+else-has w ↦ c.loop-i.invariant.few
+        | else-i-lt64-via-else-i-lt64 w ↦ c.loop-i.invariant.few
+      ];
       within = within;
       so_far = argument_passed c.args.k.now c.args.needs.bits c.loop-i.i c.args.es.now c.args.c c.loop-i.grown c.loop-i-test.true c.loop-i.invariant.within (elim c.else-i-lt64.branch [
         | else-i-lt64-via-then-i-lt64+else-has w ↦ sym w.has.ensures ∙ w.if-has.false

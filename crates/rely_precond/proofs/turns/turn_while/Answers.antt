@@ -34,8 +34,8 @@ all_covered-is_covered-requires c =
     (subst (Counted labels) (sym joining) (counted_test c.args.k.now (expr_of c.args.e.now) labels c.args.behind.now c.requires.behind))
     (subst (Counted labels) (sym again) (counted_test c.args.k.now (expr_of c.args.e.now) labels c.args.through.list.conjs c.conjs.ensures.valid.counted))
 
-pub stand-requires : goal.stand-requires
-stand-requires c =
+pub stand-requires-clause-counted : goal.stand-requires-clause-counted
+stand-requires-clause-counted c =
     let test : Conj → Conj = use_of c.args.k.now (expr_of c.args.e.now) in
     let labels = c.args.through.list.labels in
     let again : c.in_ok-again.again.items ≡ map test c.args.through.list.conjs = c.in_ok-again.ensures.ok ∙ ap (λ xs. xs ++ map test c.conjs.result.now) c.new.ensures.items ∙ ap (map test) c.conjs.ensures.value in

@@ -1,73 +1,71 @@
-use Rattle.std.proofs.Common.{rules, ◌+◌, ◌<◌, ◌^◌, ℕ, List, sym, ap, subst, ◌∙◌, arith}
+use Rattle.std.proofs.Common.{◌≡◌, ◌+◌, ◌*◌, ◌<◌, ◌^◌, ◌++◌, ℕ, List, length, sym, ap, subst, ◌∙◌, arith}
 use Rattle.rely_num.specs.Sets.{union}
 use Rattle.rely_kernel.specs.declared.kernel.St.{St}
-use Rattle.rely_kernel.specs.declared.kernel.StKind.{the_lemmas}
-use Rattle.rely_kernel.specs.Paths.{writes, all_writes}
-use Rattle.rely_kernel.specs.Text.{stmt_of, block_of}
-use Rattle.rely_precond.proofs.Sets.{target_below, first_fits, second_fits, body_fits, writes-If, writes-While, writes-Repeat, one_fits, one_more, none_left, SoFar}
+use Rattle.rely_kernel.specs.Paths.{all_writes}
+use Rattle.rely_kernel.specs.Text.{Block, Stmt, stmt_of, block_of}
+use Rattle.rely_precond.specs.declared.written.Written.{Written}
+use Rattle.rely_precond.specs.Written.{all_sets, first_block, second_block, assigns}
+use Rattle.rely_precond.proofs.Marks.{size, sizes, writes_is, first_below, second_below, first_smaller, second_smaller, one_smaller, added_more, statement_added}
+use Rattle.rely_precond.proofs.Sets.{one_fits, one_more, none_left, SoFar}
 use Rattle.rely_precond.proofs.written.+written.Goals as goal
 
-pub written-with-requires : goal.written-with-requires
-written-with-requires t c = target_below c.args.what.now c.requires c.in-Set.v (ap (λ w. writes (stmt_of w)) c.in-Set.is)
+pub add_block-add_statement-requires : goal.add_block-add_statement-requires
+add_block-add_statement-requires t c =
+    let body : List St = c.args.body.now in
+    let i : ℕ = c.loop-statement.statement-index in
+    let within : i < length body = omega (arith, c.loop-statement-test.true) in
+    let less = one_smaller body i c.statement-item.result within c.statement-item.is in
+    let falls : 2 * size (stmt_of c.statement-item.result.what) + 1 < t = omega (arith, less, c.decreases) in
+    (falls, one_fits body i c.statement-item.result c.loop-statement.set.bits within c.statement-item.is c.loop-statement.invariant.set c.requires)
 
-pub written-with-requires-in-SetElem : goal.written-with-requires-in-SetElem
-written-with-requires-in-SetElem t c = target_below c.args.what.now c.requires c.in-SetElem.v (ap (λ w. writes (stmt_of w)) c.in-SetElem.is)
+pub add_block-loop-statement-preserved : goal.add_block-loop-statement-preserved
+add_block-loop-statement-preserved t c =
+    let body : List St = c.args.body.now in
+    let i : ℕ = c.loop-statement.statement-index in
+    let s : St = c.statement-item.result in
+    let within : i < length body = omega (arith, c.loop-statement-test.true) in
+    record {
+      set = subst (λ (n : ℕ). SoFar body (i + 1) n) (sym c.union-set.ensures)
+          (one_more body i s c.loop-statement.set.bits c.in_ok-add_statement.field-0.bits within c.statement-item.is c.loop-statement.invariant.set c.in_ok-add_statement.ensures.set);
+      sets = added_more body i s c.args.sets.now.items c.loop-statement.sets.items c.add_statement.new.sets.items within c.statement-item.is c.loop-statement.invariant.sets c.in_ok-add_statement.ensures.sets;
+    }
 
-pub written-with-requires-in-Call : goal.written-with-requires-in-Call
-written-with-requires-in-Call t c = target_below c.args.what.now c.requires c.in-Call.v (ap (λ w. writes (stmt_of w)) c.in-Call.is)
+pub add_block-returns-clause-set : goal.add_block-returns-clause-set
+add_block-returns-clause-set t c = none_left c.args.body.now c.loop-statement.statement-index c.loop-statement.set.bits (omega (arith, c.loop-statement-test.false)) c.loop-statement.invariant.set
 
-pub written-all_written-requires : goal.written-all_written-requires
-written-all_written-requires t c = (
-  search (rules, the_lemmas),
-  subst (λ (ss : List St). all_writes (block_of ss) < 2 ^ 64) (sym c.as_slice.ensures) (first_fits c.args.what.now c.requires c.in-If.field-0 c.in-If.s c.in-If.t c.in-If.is),
-)
+pub add_statement-add_block-requires : goal.add_statement-add_block-requires
+add_statement-add_block-requires t c =
+    let s : Stmt = stmt_of c.args.what.now in
+    let less = first_smaller s (block_of c.first_block.result.now) c.first_block.ensures in
+    let falls : 2 * sizes (block_of c.first_block.result.now) < t = omega (arith, less, c.decreases) in
+    (falls, subst (λ (x : Block). all_writes x < 2 ^ 64) (sym c.first_block.ensures) (first_below s c.requires))
 
-pub written-all_written-requires-in-If : goal.written-all_written-requires-in-If
-written-all_written-requires-in-If t c = (
-  search (rules, the_lemmas),
-  subst (λ (ss : List St). all_writes (block_of ss) < 2 ^ 64) (sym c.as_slice-in-If.ensures) (second_fits c.args.what.now c.requires c.in-If.field-0 c.in-If.s c.in-If.t c.in-If.is),
-)
+pub add_statement-add_block-requires-2 : goal.add_statement-add_block-requires-2
+add_statement-add_block-requires-2 t c =
+    let s : Stmt = stmt_of c.args.what.now in
+    let less = second_smaller s (block_of c.second_block.result.now) c.second_block.ensures in
+    let falls : 2 * sizes (block_of c.second_block.result.now) < t = omega (arith, less, c.decreases) in
+    (falls, subst (λ (x : Block). all_writes x < 2 ^ 64) (sym c.second_block.ensures) (second_below s c.requires))
 
-pub written-all_written-requires-in-While : goal.written-all_written-requires-in-While
-written-all_written-requires-in-While t c = (
-  search (rules, the_lemmas),
-  subst (λ (ss : List St). all_writes (block_of ss) < 2 ^ 64) (sym c.as_slice-in-While.ensures)
-      (body_fits c.args.what.now c.requires c.in-While.s (ap (λ w. writes (stmt_of w)) c.in-While.is ∙ writes-While c.in-While.field-0 c.in-While.field-1 c.in-While.s)),
-)
+pub add_statement-returns-clause-set : goal.add_statement-returns-clause-set
+add_statement-returns-clause-set t c =
+    let s : Stmt = stmt_of c.args.what.now in
+    c.union-set.ensures
+    ∙ ap (λ n. union n c.in_ok-second.second.bits) (c.union.ensures ∙ ap (λ n. union n c.in_ok-first.first.bits) c.assigned.ensures ∙ ap (union (assigns s)) (c.in_ok-first.ensures.set ∙ ap all_writes c.first_block.ensures))
+    ∙ ap (union (union (assigns s) (all_writes (first_block s)))) (c.in_ok-second.ensures.set ∙ ap all_writes c.second_block.ensures)
+    ∙ writes_is s
 
-pub written-all_written-requires-in-Repeat : goal.written-all_written-requires-in-Repeat
-written-all_written-requires-in-Repeat t c = (
-  search (rules, the_lemmas),
-  subst (λ (ss : List St). all_writes (block_of ss) < 2 ^ 64) (sym c.as_slice-in-Repeat.ensures)
-      (body_fits c.args.what.now c.requires c.in-Repeat.s (ap (λ w. writes (stmt_of w)) c.in-Repeat.is ∙ writes-Repeat c.in-Repeat.field-0 c.in-Repeat.s)),
-)
-
-pub written-returns-in-If : goal.written-returns-in-If
-written-returns-in-If t c =
-    c.union.ensures
-    ∙ ap (λ n. union n c.all_written-in-If.result.bits) (c.all_written.ensures ∙ ap (λ ss. all_writes (block_of ss)) c.as_slice.ensures)
-    ∙ ap (union (all_writes (block_of c.in-If.s))) (c.all_written-in-If.ensures ∙ ap (λ ss. all_writes (block_of ss)) c.as_slice-in-If.ensures)
-    ∙ sym (ap (λ w. writes (stmt_of w)) c.in-If.is ∙ writes-If c.in-If.field-0 c.in-If.s c.in-If.t)
-
-pub written-returns-in-While : goal.written-returns-in-While
-written-returns-in-While t c =
-    c.all_written-in-While.ensures ∙ ap (λ ss. all_writes (block_of ss)) c.as_slice-in-While.ensures ∙ sym (ap (λ w. writes (stmt_of w)) c.in-While.is ∙ writes-While c.in-While.field-0 c.in-While.field-1 c.in-While.s)
-
-pub written-returns-in-Repeat : goal.written-returns-in-Repeat
-written-returns-in-Repeat t c =
-    c.all_written-in-Repeat.ensures ∙ ap (λ ss. all_writes (block_of ss)) c.as_slice-in-Repeat.ensures ∙ sym (ap (λ w. writes (stmt_of w)) c.in-Repeat.is ∙ writes-Repeat c.in-Repeat.field-0 c.in-Repeat.s)
-
-pub all_written-written-requires : goal.all_written-written-requires
-all_written-written-requires t c = (
-  search (rules, the_lemmas),
-  one_fits c.args.body.now c.loop-statement.statement-index c.statement-item.result c.loop-statement.set.bits (omega (arith, c.loop-statement-test.true)) c.statement-item.is c.loop-statement.invariant c.requires,
-)
-
-pub all_written-loop-statement-preserved : goal.all_written-loop-statement-preserved
-all_written-loop-statement-preserved t c =
-    subst (λ (n : ℕ). SoFar c.args.body.now (c.loop-statement.statement-index + 1) n) (sym c.union-set.ensures)
-    (one_more c.args.body.now c.loop-statement.statement-index c.statement-item.result c.loop-statement.set.bits c.written.result.bits (omega (arith, c.loop-statement-test.true)) c.statement-item.is
-    c.loop-statement.invariant c.written.ensures)
-
-pub all_written-returns : goal.all_written-returns
-all_written-returns t c = none_left c.args.body.now c.loop-statement.statement-index c.loop-statement.set.bits (omega (arith, c.loop-statement-test.false)) c.loop-statement.invariant
+pub add_statement-returns-clause-sets : goal.add_statement-returns-clause-sets
+add_statement-returns-clause-sets t c =
+    let s : Stmt = stmt_of c.args.what.now in
+    let old : List Written = c.args.sets.now.items in
+    let middle : List Written = c.add_block.new.sets.items in
+    let after : List Written = c.add_block-2.new.sets.items in
+    let at_old : c.len-start.result ≡ length old = let o = c.args.sets.now.ok in omega (arith, o, c.len-start.ensures) in
+    let at_middle : c.len-middle.result ≡ length middle = let o = c.add_block.new.sets.ok in omega (arith, o, c.len-middle.ensures) in
+    let at_after : c.len.result ≡ length after = let o = c.add_block-2.new.sets.ok in omega (arith, o, c.len.ensures) in
+    let first : middle ≡ old ++ all_sets (first_block s) = ◌∙◌ {A = List Written} c.in_ok-first.ensures.sets (ap (λ x. old ++ all_sets x) c.first_block.ensures) in
+    let second : after ≡ middle ++ all_sets (second_block s) = ◌∙◌ {A = List Written} c.in_ok-second.ensures.sets (ap (λ x. middle ++ all_sets x) c.second_block.ensures) in
+    ◌∙◌ {A = List Written} c.in_ok-push.ensures.items
+    (statement_added s old middle after first second
+    c.union-set.result.bits c.len-start.result c.len-middle.result c.len.result (add_statement-returns-clause-set t c) at_old at_middle at_after)
