@@ -1,6 +1,6 @@
 //! Debits and budgets of a hardware, and a made problem.
 
-use chisel_debit::{budget, debits, debits_of};
+use chisel_debit::{budget, budgets_of, debits, debits_of};
 use chisel_make::make;
 use rely_num::Atto;
 use std::test::Fail;
@@ -36,6 +36,8 @@ fn budgets(rt: HostRuntime) -> Result<(), Fail> {
     for (bound, wanted) in BUDGETS {
         let bound = Atto::read(bound).expect(&rt, "a bound");
         assert_eq!(rt; budget(h.base, bound), wanted);
+        let all = budgets_of(rt.alloc(), h.base, [bound, Atto::ONE].as_slice())?;
+        assert_eq!(rt; all.as_slice(), [wanted, 0].as_slice());
     }
     Ok(())
 }
