@@ -1,7 +1,7 @@
 //! The walk through the statements of a text, from the last to the first.
-ghost use Rattle.std.specs.Prelude.{◌≡◌, ◌<◌, ◌^◌, false, length, IfErr, IfOk, IsTrue};
+ghost use Rattle.std.specs.Prelude.{◌≡◌, false, length, IfErr, IfOk, IsTrue};
 ghost use Rattle.std.specs.List.{All};
-ghost use Rattle.rely_kernel.specs.Paths.{use_of, writes};
+ghost use Rattle.rely_kernel.specs.Paths.{use_of};
 ghost use Rattle.rely_kernel.specs.Text.{block_of, expr_of, stmt_of};
 ghost use Rattle.rely_kernel.specs.Valid.{IsValid};
 ghost use Rattle.rely_loops.specs.Grown.{too_many};
