@@ -106,6 +106,9 @@ module _ (r : Function) (s : Store) (t : Counts) (v place : ℕ) (es : List Expr
       let b = length-append r.linked.now.inner (r.linked.now.kernel ∷ []) in
       omega (arith, a, b, earlier)
 
+  pub called_known : HasRows r.linked.now t → q.at < length t.entries
+  called_known rows = let e = rows.entries in let b = below_inner in omega (arith, e, b)
+
   module _ (t1 : Counts) (zs : List ℤ) (long : length zs ≡ length es) (number_fits : All-fit zs) (args : Runs r (argument_items es) (λ st. st) (pushed zs) s t s t1) where
     pub call_known : q.at < length t1.entries
     call_known = let e = args.running.rows.entries in let b = below_inner in omega (arith, e, b)
@@ -168,6 +171,9 @@ module _ (r : Function) (s : Store) (t : Counts) (v place : ℕ) (es : List Expr
 
         pub call_label : (at i : ℕ) → at ≡ r.at → i ≡ number r.kernel.now (label.Write v) → i < get_or (map length t3.uses) at 0
         call_label at i here there = rw (here, there, t3_rows.rows, found_map labels_of (functions r.linked.now) r.at r.kernel.now known) label_in
+
+        pub call_kept : (u : Counts) (at i : ℕ) → u ≡ with_use t3 at i → q.at < length u.entries
+        call_kept u at i used = rw used (let e = t3_rows.entries in let b = below_inner in omega (arith, e, b))
 
         -- the run stands before the write
         leaves : (c : Config) (more : List Item) (st : List ℤ) (fr : List Frame) → Stands r.linked.now c (standing r (stmt_items (Stmt.Call v place es) more) st s fr) t

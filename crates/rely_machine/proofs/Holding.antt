@@ -7,6 +7,7 @@ use Rattle.rely_kernel.specs.declared.kernel.Var.{Var}
 use Rattle.rely_kernel.specs.declared.setting.Store.{Store}
 use Rattle.rely_kernel.specs.Machine.{cell, with_cell, fresh, zeros, parameters, locals}
 use Rattle.rely_kernel.specs.Valid.{IsValid}
+use Rattle.rely_machine.specs.Starts.{started}
 
 -- a row of one number
 one_set : (xs : List ℤ) (z : ℤ) → length xs ≡ 1 → slice_set xs 0 z ≡ z ∷ []
@@ -29,32 +30,22 @@ write_is cells result s v z w row new same long is wrote number =
 
 -- ---- where a callee starts
 
--- an argument for each variable, and zeros for the others
-pub started : List Var → List ℤ → List (List ℤ)
-started [] zs = []
-started (x ∷ xs) [] = zeros x ∷ started xs []
-started (x ∷ xs) (z ∷ zs) = (z ∷ []) ∷ started xs zs
-
 zeros_started : (xs : List Var) → started xs [] ≡ map zeros xs
-unfolding started
 zeros_started [] = refl
 zeros_started (x ∷ xs) = ap (λ cs. zeros x ∷ cs) (zeros_started xs)
 
 both_started : (ps ls : List Var) (zs : List ℤ) → length zs ≡ length ps → started (ps ++ ls) zs ≡ map (λ z. z ∷ []) zs ++ map zeros ls
-unfolding started
 both_started [] ls [] e = zeros_started ls
 both_started [] ls (z ∷ zs) e = absurd (omega (arith, e))
 both_started (p ∷ ps) ls [] e = absurd (omega (arith, e))
 both_started (p ∷ ps) ls (z ∷ zs) e = ap (λ cs. (z ∷ []) ∷ cs) (both_started ps ls zs (omega (arith, e)))
 
 pub started_long : (xs : List Var) (zs : List ℤ) → length (started xs zs) ≡ length xs
-unfolding started
 started_long [] zs = refl
 started_long (x ∷ xs) [] = ap suc (started_long xs [])
 started_long (x ∷ xs) (z ∷ zs) = ap suc (started_long xs zs)
 
 pub started_at : (xs : List Var) (zs : List ℤ) (i : ℕ) (x : Var) → x ≡ get_or xs i x → i < length xs → get_or (started xs zs) i [] ≡ option_map_or (λ z. z ∷ []) (slice_get zs i) (zeros x)
-unfolding started
 started_at [] zs i x e below = absurd (omega (arith, below))
 started_at (y ∷ ys) [] zero x e below = ap zeros (sym e)
 started_at (y ∷ ys) (z ∷ zs) zero x e below = refl

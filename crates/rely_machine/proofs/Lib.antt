@@ -14,6 +14,7 @@ pub mod Holding
 pub mod Idling
 pub mod Listing
 pub mod Looping
+pub mod Putting
 pub mod Reading
 pub mod Sizes
 pub mod Steps

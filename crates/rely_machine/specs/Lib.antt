@@ -4,3 +4,4 @@ pub mod Going
 pub mod Idle
 pub mod Laws
 pub mod Run
+pub mod Starts

@@ -11,6 +11,7 @@ mod lists;
 mod live;
 mod outcome;
 mod reliable;
+mod spare;
 mod tally;
 mod value;
 mod walk;

@@ -6,6 +6,7 @@ ghost use Rattle.rely_machine.specs.Going.{HasRows, with_entry, with_steps, with
 ghost use Rattle.rely_machine.specs.declared.fault.RunFault.TheVariants as fault;
 
 use crate::lists::{list_of, lists_of};
+use crate::spare::Spare;
 use crate::{Outcome, RunFault};
 use rely_kernel::{Linked, Store, labels};
 use sqlite_items::Items;
@@ -20,10 +21,12 @@ pub struct Tally {
     entries: Items<u64>,
     steps: u64,
     limit: u64,
+    // one for each function, once a call of it has ended
+    spares: Vec<Option<Box<Spare>>>,
 }
 
 impl Model for Tally {
-    ghost use Rattle.std.specs.Prelude.{◌<◌, ◌≤◌};
+    ghost use Rattle.std.specs.Prelude.{◌≡◌, ◌<◌, ◌≤◌, length};
     ghost use Rattle.std.specs.List.{All};
     ghost use Rattle.rely_machine.specs.Going.{Counts};
 
@@ -31,7 +34,7 @@ impl Model for Tally {
 
     ghost view = { λ t. record { uses = t.uses.items; entries = t.entries; steps = t.steps; limit = t.limit } };
 
-    ghost invariant = { λ t. (t.steps < t.limit) × All (All (λ n. n ≤ t.steps)) t.uses.items };
+    ghost invariant = { λ t. (t.steps < t.limit) × All (All (λ n. n ≤ t.steps)) t.uses.items × (length t.spares.items ≡ length t.entries) };
 }
 
 fn zeros(alloc: Global, n: u32) -> Result<Items<u64>, AllocError>
@@ -53,6 +56,16 @@ fn rows_of(alloc: Global, l: &Linked) -> Result<Vec<Items<u64>>, AllocError>
     Ok(rows)
 }
 
+fn no_spares(alloc: Global, n: usize) -> Result<Vec<Option<Box<Spare>>>, AllocError>
+    ensures { IfOk result (λ spares. length spares.items ≡ n) }
+{
+    let mut spares = Vec::new(alloc);
+    for _ in 0..n {
+        spares.push(None)?;
+    }
+    Ok(spares)
+}
+
 impl Tally {
     /// Nothing is counted.
     pub fn new(alloc: Global, l: &Linked, limit: u64) -> Result<Tally, RunFault>
@@ -69,6 +82,7 @@ impl Tally {
             entries: Items::from_vec(entries),
             steps: 0,
             limit,
+            spares: no_spares(alloc, l.inner.len())?,
         })
     }
 
@@ -107,6 +121,28 @@ impl Tally {
         let entries = self.entries.as_slice()[function];
         self.entries.set(function, entries + 1);
         Ok(())
+    }
+
+    /// The memory of an earlier call of a function, for another.
+    pub fn spare(&mut self, function: usize) -> Result<Box<Spare>, AllocError>
+        requires { function < length self.old.entries }
+        ensures { self.new ≡ self.old }
+    {
+        match self.spares[function].take() {
+            Some(spare) => Ok(spare),
+            None => {
+                let alloc = self.allocator();
+                Ok(Box::new(alloc, Spare::new(alloc))?)
+            }
+        }
+    }
+
+    /// Keeps the memory of a call that has ended.
+    pub fn keep(&mut self, function: usize, spare: Box<Spare>)
+        requires { function < length self.old.entries }
+        ensures { self.new ≡ self.old }
+    {
+        self.spares[function] = Some(spare);
     }
 
     pub fn allocator(&self) -> Global {

@@ -42,18 +42,25 @@ pub fn value_of(r: &Function, e: &Ex, held: &Held, tally: &mut Tally) -> Result<
     }
 }
 
-fn values_of(r: &Function, es: &[Ex], held: &Held, tally: &mut Tally) -> Result<Vec<i64>, RunFault>
+// The values of expressions, in the memory of others.
+fn values_of(
+    r: &Function,
+    es: &[Ex],
+    held: &Held,
+    tally: &mut Tally,
+    values: &mut Vec<i64>,
+) -> Result<(), RunFault>
     requires running { IsRunning r.now held.now tally.old }
     requires fits { AllFit r.now.kernel.now (exprs_of es.now) }
-    ensures numbers { IfOk result (λ zs. (length zs.items ≡ length (exprs_of es.now)) × All-fit zs.items) }
-    ensures runs { IfOk result (λ zs. Runs r.now (argument_items (exprs_of es.now)) (λ st. st) (pushed zs.items) held.now tally.old held.now tally.new) }
+    ensures numbers { OnOk result ((length values.new.items ≡ length (exprs_of es.now)) × All-fit values.new.items) }
+    ensures runs { OnOk result (Runs r.now (argument_items (exprs_of es.now)) (λ st. st) (pushed values.new.items) held.now tally.old held.now tally.new) }
     ensures exceeds { result ≡ Err fault.Steps → Exceeds r.now (argument_items (exprs_of es.now)) (λ st. st) held.now tally.old }
 {
-    let mut values = Vec::new(tally.allocator());
+    values.clear();
     for e in es {
         values.push(value_of(r, e, held, tally)?)?;
     }
-    Ok(values)
+    Ok(())
 }
 
 fn set(r: &Function, v: u32, e: &Ex, held: &mut Held, tally: &mut Tally) -> Result<(), RunFault>
@@ -251,12 +258,15 @@ fn call(
     ensures runs { OnOk result (Runs r.now (stmt_items (Stmt.Call v place (exprs_of es.now))) (λ st. st) (λ st. st) held.old tally.old held.new tally.new) }
     ensures exceeds { result ≡ Err fault.Steps → Exceeds r.now (stmt_items (Stmt.Call v place (exprs_of es.now))) (λ st. st) held.old tally.old }
 {
-    let arguments = values_of(r, es, held, tally)?;
     let callee = r.callee(place);
-    let mut inner = Held::fresh(tally.allocator(), callee.vars(), arguments.as_slice())?;
+    let mut spare = tally.spare(callee.at())?;
+    let frame = spare.as_mut();
+    values_of(r, es, held, tally, &mut frame.arguments)?;
+    frame.held.start(callee.vars(), frame.arguments.as_slice())?;
     tally.enter(callee.at(), callee.numbers())?;
-    block(&callee, callee.body(), &mut inner, tally)?;
+    block(&callee, callee.body(), &mut frame.held, tally)?;
     tally.take(r.at(), r.write_label(v))?;
-    held.write(v, inner.result());
+    held.write(v, frame.held.result());
+    tally.keep(callee.at(), spare);
     Ok(())
 }

@@ -1,13 +1,13 @@
 use Rattle.std.proofs.Common.{rules, ◌+◌, ◌-◌, ◌≤◌, ◌∷◌, length, take, drop, OnOk, sym, ap, subst, ◌∙◌, arith}
 use Rattle.std.proofs.lemmas.Result.{on_ok_weaker}
 use Rattle.rely_kernel.specs.declared.kernel.St.{St}
-use Rattle.rely_kernel.specs.Machine.{Call, Repeat, While, Write, fresh, functions, items, stmt_items}
+use Rattle.rely_kernel.specs.Machine.{Call, Repeat, While, Write, argument_items, fresh, functions, items, stmt_items}
 use Rattle.rely_kernel.specs.Text.{Stmt, block_of, expr_of, exprs_of, stmt_of}
-use Rattle.rely_kernel.specs.Running.{Fine}
+use Rattle.rely_kernel.specs.Running.{Fine, pushed}
 use Rattle.rely_kernel.proofs.TextLemmas.{text-If, text-While, text-Repeat}
 use Rattle.rely_machine.specs.Going.{Exceeds, Runs, with_entry}
 use Rattle.rely_machine.specs.Idle.{first_of, second_of, table_of}
-use Rattle.rely_machine.proofs.Calling.{arity, callee_fine, callee_running, callee_table, callee_valid, call_goes, call_known, call_label, call_smaller, call_stops_body, call_stops_enter, call_stops_write}
+use Rattle.rely_machine.proofs.Calling.{arity, callee_fine, callee_running, callee_table, callee_valid, call_goes, call_known, call_kept, call_label, call_smaller, call_stops_body, call_stops_enter, call_stops_write, called_known}
 use Rattle.rely_machine.proofs.Idling.{Walks, walk_end, walk_goes, walk_next, walk_start, walk_stops}
 use Rattle.rely_machine.proofs.Listing.{fine_at}
 use Rattle.rely_machine.proofs.Looping.{if_goes, if_stops, if_stops_first, leads_start, picks_no, picks_yes, round_ends, round_goes, round_stops, round_stops_first, round_stops_then, rounds_end, steps_running, turn_goes, turn_stops, turn_stops_then, turns_end}
@@ -80,36 +80,44 @@ block-returns-clause-runs t c = walk_end c.args.r.now c.args.text.statements.now
 pub call-body-requires : goal.call-body-requires
 call-body-requires t c = callee_table c.args.r.now c.args.held.now c.args.tally.now c.args.v c.args.place (exprs_of c.args.es.now) c.requires.running.known c.requires.running.linked c.requires.fits c.callee-callee.result c.callee-callee.ensures.linked c.callee-callee.ensures.tables c.callee-callee.ensures.at c.callee-callee.ensures.earlier c.callee-callee.ensures.kernel c.requires.running.tables
 
-pub call-returns-in_err-arguments-clause-exceeds : goal.call-returns-in_err-arguments-clause-exceeds
-call-returns-in_err-arguments-clause-exceeds t c = λ is. exceeds_first c.args.r.now (λ more. Call c.args.place ∷ Write c.args.v ∷ more) (c.values_of.ensures.exceeds (steps_from c.values_of.result c.from_residual.result c.in_err-arguments.field-0.0 c.from_residual.ensures.1 c.in_err-arguments.was is))
+pub call-spare-requires : goal.call-spare-requires
+call-spare-requires t c = rw c.at.ensures (called_known c.args.r.now c.args.held.now c.args.tally.now c.args.v c.args.place (exprs_of c.args.es.now) c.requires.running.known c.requires.running.linked c.requires.fits c.callee-callee.result c.callee-callee.ensures.linked c.callee-callee.ensures.tables c.callee-callee.ensures.at c.callee-callee.ensures.earlier c.callee-callee.ensures.kernel c.requires.running.rows)
+
+pub call-returns-in_err-values_of-clause-exceeds : goal.call-returns-in_err-values_of-clause-exceeds
+call-returns-in_err-values_of-clause-exceeds t c = λ is. exceeds_first c.args.r.now (λ more. Call c.args.place ∷ Write c.args.v ∷ more)
+    (subst (λ t. Exceeds c.args.r.now (argument_items (exprs_of c.args.es.now)) (λ st. st) c.args.held.now t) c.spare.ensures
+    (c.values_of.ensures.exceeds (steps_from c.values_of.result c.from_residual-in_err-values_of.result c.in_err-values_of.field-0.0 c.from_residual-in_err-values_of.ensures.1 c.in_err-values_of.was is)))
+
+pub call-keep-requires : goal.call-keep-requires
+call-keep-requires t c = rw c.at-4.ensures (call_kept c.args.r.now c.args.held.now c.args.tally.now c.args.v c.args.place (exprs_of c.args.es.now) c.requires.running.known c.requires.running.linked c.requires.fits c.callee-callee.result c.callee-callee.ensures.linked c.callee-callee.ensures.tables c.callee-callee.ensures.at c.callee-callee.ensures.earlier c.callee-callee.ensures.kernel c.values_of.new.tally c.values_of.new.values.items c.in_ok-values_of.ensures.numbers.0 c.in_ok-values_of.ensures.numbers.1 (subst (λ t. Runs c.args.r.now (argument_items (exprs_of c.args.es.now)) (λ st. st) (pushed c.values_of.new.values.items) c.args.held.now t c.args.held.now c.values_of.new.tally) c.spare.ensures c.in_ok-values_of.ensures.runs) c.numbers.result c.numbers.ensures c.start.new.self (c.in_ok-start.ensures c.callee-callee.result.kernel.now (callee_valid c.args.r.now c.args.held.now c.args.tally.now c.args.v c.args.place (exprs_of c.args.es.now) c.requires.running.known c.requires.running.linked c.requires.fits c.callee-callee.result c.callee-callee.ensures.linked c.callee-callee.ensures.tables c.callee-callee.ensures.at c.callee-callee.ensures.earlier c.callee-callee.ensures.kernel) (sym c.vars.ensures) (ap length c.as_slice.ensures.value ∙ (c.in_ok-values_of.ensures.numbers.0 ∙ sym (arity c.args.r.now c.args.held.now c.args.tally.now c.args.v c.args.place (exprs_of c.args.es.now) c.requires.running.known c.requires.running.linked c.requires.fits c.callee-callee.result c.callee-callee.ensures.linked c.callee-callee.ensures.tables c.callee-callee.ensures.at c.callee-callee.ensures.earlier c.callee-callee.ensures.kernel))) ∙ ap (fresh c.callee-callee.result.kernel.now) c.as_slice.ensures.value) c.enter.new.self (c.in_ok-enter.ensures.ok ∙ ap (λ g. with_entry c.values_of.new.tally g c.numbers.result) c.at-2.ensures) c.block.new.held c.block.new.tally (subst (λ ss. Runs c.callee-callee.result (items (block_of ss)) (λ st. st) (λ st. st) c.start.new.self c.enter.new.self c.block.new.held c.block.new.tally) c.body.ensures.statements c.in_ok-block.ensures.runs) c.take.new.self c.at-3.result c.write_label.result c.in_ok-take.ensures.ok)
 
 pub call-enter-requires-clause-known : goal.call-enter-requires-clause-known
-call-enter-requires-clause-known t c = rw c.at.ensures (call_known c.args.r.now c.args.held.now c.args.tally.now c.args.v c.args.place (exprs_of c.args.es.now) c.requires.running.known c.requires.running.linked c.requires.fits c.callee-callee.result c.callee-callee.ensures.linked c.callee-callee.ensures.tables c.callee-callee.ensures.at c.callee-callee.ensures.earlier c.callee-callee.ensures.kernel c.values_of.new.tally c.in_ok-arguments.arguments.items c.in_ok-arguments.ensures.numbers.0 c.in_ok-arguments.ensures.numbers.1 c.in_ok-arguments.ensures.runs)
+call-enter-requires-clause-known t c = rw c.at-2.ensures (call_known c.args.r.now c.args.held.now c.args.tally.now c.args.v c.args.place (exprs_of c.args.es.now) c.requires.running.known c.requires.running.linked c.requires.fits c.callee-callee.result c.callee-callee.ensures.linked c.callee-callee.ensures.tables c.callee-callee.ensures.at c.callee-callee.ensures.earlier c.callee-callee.ensures.kernel c.values_of.new.tally c.values_of.new.values.items c.in_ok-values_of.ensures.numbers.0 c.in_ok-values_of.ensures.numbers.1 (subst (λ t. Runs c.args.r.now (argument_items (exprs_of c.args.es.now)) (λ st. st) (pushed c.values_of.new.values.items) c.args.held.now t c.args.held.now c.values_of.new.tally) c.spare.ensures c.in_ok-values_of.ensures.runs))
 
 pub call-returns-in_err-enter-clause-exceeds : goal.call-returns-in_err-enter-clause-exceeds
-call-returns-in_err-enter-clause-exceeds t c = λ is. call_stops_enter c.args.r.now c.args.held.now c.args.tally.now c.args.v c.args.place (exprs_of c.args.es.now) c.requires.running.known c.requires.running.linked c.requires.fits c.callee-callee.result c.callee-callee.ensures.linked c.callee-callee.ensures.tables c.callee-callee.ensures.at c.callee-callee.ensures.earlier c.callee-callee.ensures.kernel c.values_of.new.tally c.in_ok-arguments.arguments.items c.in_ok-arguments.ensures.numbers.0 c.in_ok-arguments.ensures.numbers.1 c.in_ok-arguments.ensures.runs c.numbers.result c.numbers.ensures (c.enter.ensures.steps (steps_from c.enter.result c.from_residual-in_err-enter.result c.in_err-enter.field-0.0 c.from_residual-in_err-enter.ensures.1 c.in_err-enter.was is))
+call-returns-in_err-enter-clause-exceeds t c = λ is. call_stops_enter c.args.r.now c.args.held.now c.args.tally.now c.args.v c.args.place (exprs_of c.args.es.now) c.requires.running.known c.requires.running.linked c.requires.fits c.callee-callee.result c.callee-callee.ensures.linked c.callee-callee.ensures.tables c.callee-callee.ensures.at c.callee-callee.ensures.earlier c.callee-callee.ensures.kernel c.values_of.new.tally c.values_of.new.values.items c.in_ok-values_of.ensures.numbers.0 c.in_ok-values_of.ensures.numbers.1 (subst (λ t. Runs c.args.r.now (argument_items (exprs_of c.args.es.now)) (λ st. st) (pushed c.values_of.new.values.items) c.args.held.now t c.args.held.now c.values_of.new.tally) c.spare.ensures c.in_ok-values_of.ensures.runs) c.numbers.result c.numbers.ensures (c.enter.ensures.steps (steps_from c.enter.result c.from_residual-in_err-enter.result c.in_err-enter.field-0.0 c.from_residual-in_err-enter.ensures.1 c.in_err-enter.was is))
 
 pub call-block-requires : goal.call-block-requires
 call-block-requires t c =
     let smaller = call_smaller c.args.r.now c.args.held.now c.args.tally.now c.args.v c.args.place (exprs_of c.args.es.now) c.requires.running.known c.requires.running.linked c.requires.fits c.callee-callee.result c.callee-callee.ensures.linked c.callee-callee.ensures.tables c.callee-callee.ensures.at c.callee-callee.ensures.earlier c.callee-callee.ensures.kernel in
     let body = ap (λ ss. block_size (block_of ss)) c.body.ensures.statements in
     let d = c.decreases in
-    (omega (arith, d, smaller, body), (callee_running c.args.r.now c.args.held.now c.args.tally.now c.args.v c.args.place (exprs_of c.args.es.now) c.requires.running.known c.requires.running.linked c.requires.fits c.callee-callee.result c.callee-callee.ensures.linked c.callee-callee.ensures.tables c.callee-callee.ensures.at c.callee-callee.ensures.earlier c.callee-callee.ensures.kernel c.values_of.new.tally c.in_ok-arguments.arguments.items c.in_ok-arguments.ensures.numbers.0 c.in_ok-arguments.ensures.numbers.1 c.in_ok-arguments.ensures.runs c.numbers.result c.numbers.ensures c.in_ok-inner.inner (c.in_ok-inner.ensures c.callee-callee.result.kernel.now (callee_valid c.args.r.now c.args.held.now c.args.tally.now c.args.v c.args.place (exprs_of c.args.es.now) c.requires.running.known c.requires.running.linked c.requires.fits c.callee-callee.result c.callee-callee.ensures.linked c.callee-callee.ensures.tables c.callee-callee.ensures.at c.callee-callee.ensures.earlier c.callee-callee.ensures.kernel) (sym c.vars.ensures) (ap length c.as_slice.ensures.value ∙ (c.in_ok-arguments.ensures.numbers.0 ∙ sym (arity c.args.r.now c.args.held.now c.args.tally.now c.args.v c.args.place (exprs_of c.args.es.now) c.requires.running.known c.requires.running.linked c.requires.fits c.callee-callee.result c.callee-callee.ensures.linked c.callee-callee.ensures.tables c.callee-callee.ensures.at c.callee-callee.ensures.earlier c.callee-callee.ensures.kernel))) ∙ ap (fresh c.callee-callee.result.kernel.now) c.as_slice.ensures.value) c.enter.new.self (c.in_ok-enter.ensures.ok ∙ ap (λ g. with_entry c.values_of.new.tally g c.numbers.result) c.at.ensures), (rw c.body.ensures.statements (callee_fine c.args.r.now c.args.held.now c.args.tally.now c.args.v c.args.place (exprs_of c.args.es.now) c.requires.running.known c.requires.running.linked c.requires.fits c.callee-callee.result c.callee-callee.ensures.linked c.callee-callee.ensures.tables c.callee-callee.ensures.at c.callee-callee.ensures.earlier c.callee-callee.ensures.kernel), has_table c.body.result c.callee-callee.result.kernel.now c.body.ensures.statements c.body.ensures.live)))
+    (omega (arith, d, smaller, body), (callee_running c.args.r.now c.args.held.now c.args.tally.now c.args.v c.args.place (exprs_of c.args.es.now) c.requires.running.known c.requires.running.linked c.requires.fits c.callee-callee.result c.callee-callee.ensures.linked c.callee-callee.ensures.tables c.callee-callee.ensures.at c.callee-callee.ensures.earlier c.callee-callee.ensures.kernel c.values_of.new.tally c.values_of.new.values.items c.in_ok-values_of.ensures.numbers.0 c.in_ok-values_of.ensures.numbers.1 (subst (λ t. Runs c.args.r.now (argument_items (exprs_of c.args.es.now)) (λ st. st) (pushed c.values_of.new.values.items) c.args.held.now t c.args.held.now c.values_of.new.tally) c.spare.ensures c.in_ok-values_of.ensures.runs) c.numbers.result c.numbers.ensures c.start.new.self (c.in_ok-start.ensures c.callee-callee.result.kernel.now (callee_valid c.args.r.now c.args.held.now c.args.tally.now c.args.v c.args.place (exprs_of c.args.es.now) c.requires.running.known c.requires.running.linked c.requires.fits c.callee-callee.result c.callee-callee.ensures.linked c.callee-callee.ensures.tables c.callee-callee.ensures.at c.callee-callee.ensures.earlier c.callee-callee.ensures.kernel) (sym c.vars.ensures) (ap length c.as_slice.ensures.value ∙ (c.in_ok-values_of.ensures.numbers.0 ∙ sym (arity c.args.r.now c.args.held.now c.args.tally.now c.args.v c.args.place (exprs_of c.args.es.now) c.requires.running.known c.requires.running.linked c.requires.fits c.callee-callee.result c.callee-callee.ensures.linked c.callee-callee.ensures.tables c.callee-callee.ensures.at c.callee-callee.ensures.earlier c.callee-callee.ensures.kernel))) ∙ ap (fresh c.callee-callee.result.kernel.now) c.as_slice.ensures.value) c.enter.new.self (c.in_ok-enter.ensures.ok ∙ ap (λ g. with_entry c.values_of.new.tally g c.numbers.result) c.at-2.ensures), (rw c.body.ensures.statements (callee_fine c.args.r.now c.args.held.now c.args.tally.now c.args.v c.args.place (exprs_of c.args.es.now) c.requires.running.known c.requires.running.linked c.requires.fits c.callee-callee.result c.callee-callee.ensures.linked c.callee-callee.ensures.tables c.callee-callee.ensures.at c.callee-callee.ensures.earlier c.callee-callee.ensures.kernel), has_table c.body.result c.callee-callee.result.kernel.now c.body.ensures.statements c.body.ensures.live)))
 
 pub call-returns-in_err-block-clause-exceeds : goal.call-returns-in_err-block-clause-exceeds
-call-returns-in_err-block-clause-exceeds t c = λ is. call_stops_body c.args.r.now c.args.held.now c.args.tally.now c.args.v c.args.place (exprs_of c.args.es.now) c.requires.running.known c.requires.running.linked c.requires.fits c.callee-callee.result c.callee-callee.ensures.linked c.callee-callee.ensures.tables c.callee-callee.ensures.at c.callee-callee.ensures.earlier c.callee-callee.ensures.kernel c.values_of.new.tally c.in_ok-arguments.arguments.items c.in_ok-arguments.ensures.numbers.0 c.in_ok-arguments.ensures.numbers.1 c.in_ok-arguments.ensures.runs c.numbers.result c.numbers.ensures c.in_ok-inner.inner (c.in_ok-inner.ensures c.callee-callee.result.kernel.now (callee_valid c.args.r.now c.args.held.now c.args.tally.now c.args.v c.args.place (exprs_of c.args.es.now) c.requires.running.known c.requires.running.linked c.requires.fits c.callee-callee.result c.callee-callee.ensures.linked c.callee-callee.ensures.tables c.callee-callee.ensures.at c.callee-callee.ensures.earlier c.callee-callee.ensures.kernel) (sym c.vars.ensures) (ap length c.as_slice.ensures.value ∙ (c.in_ok-arguments.ensures.numbers.0 ∙ sym (arity c.args.r.now c.args.held.now c.args.tally.now c.args.v c.args.place (exprs_of c.args.es.now) c.requires.running.known c.requires.running.linked c.requires.fits c.callee-callee.result c.callee-callee.ensures.linked c.callee-callee.ensures.tables c.callee-callee.ensures.at c.callee-callee.ensures.earlier c.callee-callee.ensures.kernel))) ∙ ap (fresh c.callee-callee.result.kernel.now) c.as_slice.ensures.value) c.enter.new.self (c.in_ok-enter.ensures.ok ∙ ap (λ g. with_entry c.values_of.new.tally g c.numbers.result) c.at.ensures) (subst (λ ss. Exceeds c.callee-callee.result (items (block_of ss)) (λ st. st) c.in_ok-inner.inner c.enter.new.self) c.body.ensures.statements (c.block.ensures.exceeds (steps_from c.block.result c.from_residual-in_err-block.result c.in_err-block.field-0.0 c.from_residual-in_err-block.ensures.1 c.in_err-block.was is)))
+call-returns-in_err-block-clause-exceeds t c = λ is. call_stops_body c.args.r.now c.args.held.now c.args.tally.now c.args.v c.args.place (exprs_of c.args.es.now) c.requires.running.known c.requires.running.linked c.requires.fits c.callee-callee.result c.callee-callee.ensures.linked c.callee-callee.ensures.tables c.callee-callee.ensures.at c.callee-callee.ensures.earlier c.callee-callee.ensures.kernel c.values_of.new.tally c.values_of.new.values.items c.in_ok-values_of.ensures.numbers.0 c.in_ok-values_of.ensures.numbers.1 (subst (λ t. Runs c.args.r.now (argument_items (exprs_of c.args.es.now)) (λ st. st) (pushed c.values_of.new.values.items) c.args.held.now t c.args.held.now c.values_of.new.tally) c.spare.ensures c.in_ok-values_of.ensures.runs) c.numbers.result c.numbers.ensures c.start.new.self (c.in_ok-start.ensures c.callee-callee.result.kernel.now (callee_valid c.args.r.now c.args.held.now c.args.tally.now c.args.v c.args.place (exprs_of c.args.es.now) c.requires.running.known c.requires.running.linked c.requires.fits c.callee-callee.result c.callee-callee.ensures.linked c.callee-callee.ensures.tables c.callee-callee.ensures.at c.callee-callee.ensures.earlier c.callee-callee.ensures.kernel) (sym c.vars.ensures) (ap length c.as_slice.ensures.value ∙ (c.in_ok-values_of.ensures.numbers.0 ∙ sym (arity c.args.r.now c.args.held.now c.args.tally.now c.args.v c.args.place (exprs_of c.args.es.now) c.requires.running.known c.requires.running.linked c.requires.fits c.callee-callee.result c.callee-callee.ensures.linked c.callee-callee.ensures.tables c.callee-callee.ensures.at c.callee-callee.ensures.earlier c.callee-callee.ensures.kernel))) ∙ ap (fresh c.callee-callee.result.kernel.now) c.as_slice.ensures.value) c.enter.new.self (c.in_ok-enter.ensures.ok ∙ ap (λ g. with_entry c.values_of.new.tally g c.numbers.result) c.at-2.ensures) (subst (λ ss. Exceeds c.callee-callee.result (items (block_of ss)) (λ st. st) c.start.new.self c.enter.new.self) c.body.ensures.statements (c.block.ensures.exceeds (steps_from c.block.result c.from_residual-in_err-block.result c.in_err-block.field-0.0 c.from_residual-in_err-block.ensures.1 c.in_err-block.was is)))
 
 pub call-take-requires : goal.call-take-requires
-call-take-requires t c = call_label c.args.r.now c.args.held.now c.args.tally.now c.args.v c.args.place (exprs_of c.args.es.now) c.requires.running.known c.requires.running.linked c.requires.fits c.callee-callee.result c.callee-callee.ensures.linked c.callee-callee.ensures.tables c.callee-callee.ensures.at c.callee-callee.ensures.earlier c.callee-callee.ensures.kernel c.values_of.new.tally c.in_ok-arguments.arguments.items c.in_ok-arguments.ensures.numbers.0 c.in_ok-arguments.ensures.numbers.1 c.in_ok-arguments.ensures.runs c.numbers.result c.numbers.ensures c.in_ok-inner.inner (c.in_ok-inner.ensures c.callee-callee.result.kernel.now (callee_valid c.args.r.now c.args.held.now c.args.tally.now c.args.v c.args.place (exprs_of c.args.es.now) c.requires.running.known c.requires.running.linked c.requires.fits c.callee-callee.result c.callee-callee.ensures.linked c.callee-callee.ensures.tables c.callee-callee.ensures.at c.callee-callee.ensures.earlier c.callee-callee.ensures.kernel) (sym c.vars.ensures) (ap length c.as_slice.ensures.value ∙ (c.in_ok-arguments.ensures.numbers.0 ∙ sym (arity c.args.r.now c.args.held.now c.args.tally.now c.args.v c.args.place (exprs_of c.args.es.now) c.requires.running.known c.requires.running.linked c.requires.fits c.callee-callee.result c.callee-callee.ensures.linked c.callee-callee.ensures.tables c.callee-callee.ensures.at c.callee-callee.ensures.earlier c.callee-callee.ensures.kernel))) ∙ ap (fresh c.callee-callee.result.kernel.now) c.as_slice.ensures.value) c.enter.new.self (c.in_ok-enter.ensures.ok ∙ ap (λ g. with_entry c.values_of.new.tally g c.numbers.result) c.at.ensures) c.block.new.held c.block.new.tally (subst (λ ss. Runs c.callee-callee.result (items (block_of ss)) (λ st. st) (λ st. st) c.in_ok-inner.inner c.enter.new.self c.block.new.held c.block.new.tally) c.body.ensures.statements c.in_ok-block.ensures.runs) c.at-2.result c.write_label.result c.at-2.ensures c.write_label.ensures
+call-take-requires t c = call_label c.args.r.now c.args.held.now c.args.tally.now c.args.v c.args.place (exprs_of c.args.es.now) c.requires.running.known c.requires.running.linked c.requires.fits c.callee-callee.result c.callee-callee.ensures.linked c.callee-callee.ensures.tables c.callee-callee.ensures.at c.callee-callee.ensures.earlier c.callee-callee.ensures.kernel c.values_of.new.tally c.values_of.new.values.items c.in_ok-values_of.ensures.numbers.0 c.in_ok-values_of.ensures.numbers.1 (subst (λ t. Runs c.args.r.now (argument_items (exprs_of c.args.es.now)) (λ st. st) (pushed c.values_of.new.values.items) c.args.held.now t c.args.held.now c.values_of.new.tally) c.spare.ensures c.in_ok-values_of.ensures.runs) c.numbers.result c.numbers.ensures c.start.new.self (c.in_ok-start.ensures c.callee-callee.result.kernel.now (callee_valid c.args.r.now c.args.held.now c.args.tally.now c.args.v c.args.place (exprs_of c.args.es.now) c.requires.running.known c.requires.running.linked c.requires.fits c.callee-callee.result c.callee-callee.ensures.linked c.callee-callee.ensures.tables c.callee-callee.ensures.at c.callee-callee.ensures.earlier c.callee-callee.ensures.kernel) (sym c.vars.ensures) (ap length c.as_slice.ensures.value ∙ (c.in_ok-values_of.ensures.numbers.0 ∙ sym (arity c.args.r.now c.args.held.now c.args.tally.now c.args.v c.args.place (exprs_of c.args.es.now) c.requires.running.known c.requires.running.linked c.requires.fits c.callee-callee.result c.callee-callee.ensures.linked c.callee-callee.ensures.tables c.callee-callee.ensures.at c.callee-callee.ensures.earlier c.callee-callee.ensures.kernel))) ∙ ap (fresh c.callee-callee.result.kernel.now) c.as_slice.ensures.value) c.enter.new.self (c.in_ok-enter.ensures.ok ∙ ap (λ g. with_entry c.values_of.new.tally g c.numbers.result) c.at-2.ensures) c.block.new.held c.block.new.tally (subst (λ ss. Runs c.callee-callee.result (items (block_of ss)) (λ st. st) (λ st. st) c.start.new.self c.enter.new.self c.block.new.held c.block.new.tally) c.body.ensures.statements c.in_ok-block.ensures.runs) c.at-3.result c.write_label.result c.at-3.ensures c.write_label.ensures
 
 pub call-returns-in_err-take-clause-exceeds : goal.call-returns-in_err-take-clause-exceeds
-call-returns-in_err-take-clause-exceeds t c = λ is. call_stops_write c.args.r.now c.args.held.now c.args.tally.now c.args.v c.args.place (exprs_of c.args.es.now) c.requires.running.known c.requires.running.linked c.requires.fits c.callee-callee.result c.callee-callee.ensures.linked c.callee-callee.ensures.tables c.callee-callee.ensures.at c.callee-callee.ensures.earlier c.callee-callee.ensures.kernel c.values_of.new.tally c.in_ok-arguments.arguments.items c.in_ok-arguments.ensures.numbers.0 c.in_ok-arguments.ensures.numbers.1 c.in_ok-arguments.ensures.runs c.numbers.result c.numbers.ensures c.in_ok-inner.inner (c.in_ok-inner.ensures c.callee-callee.result.kernel.now (callee_valid c.args.r.now c.args.held.now c.args.tally.now c.args.v c.args.place (exprs_of c.args.es.now) c.requires.running.known c.requires.running.linked c.requires.fits c.callee-callee.result c.callee-callee.ensures.linked c.callee-callee.ensures.tables c.callee-callee.ensures.at c.callee-callee.ensures.earlier c.callee-callee.ensures.kernel) (sym c.vars.ensures) (ap length c.as_slice.ensures.value ∙ (c.in_ok-arguments.ensures.numbers.0 ∙ sym (arity c.args.r.now c.args.held.now c.args.tally.now c.args.v c.args.place (exprs_of c.args.es.now) c.requires.running.known c.requires.running.linked c.requires.fits c.callee-callee.result c.callee-callee.ensures.linked c.callee-callee.ensures.tables c.callee-callee.ensures.at c.callee-callee.ensures.earlier c.callee-callee.ensures.kernel))) ∙ ap (fresh c.callee-callee.result.kernel.now) c.as_slice.ensures.value) c.enter.new.self (c.in_ok-enter.ensures.ok ∙ ap (λ g. with_entry c.values_of.new.tally g c.numbers.result) c.at.ensures) c.block.new.held c.block.new.tally (subst (λ ss. Runs c.callee-callee.result (items (block_of ss)) (λ st. st) (λ st. st) c.in_ok-inner.inner c.enter.new.self c.block.new.held c.block.new.tally) c.body.ensures.statements c.in_ok-block.ensures.runs) (c.take.ensures.steps (steps_from c.take.result c.from_residual-in_err-take.result c.in_err-take.field-0.0 c.from_residual-in_err-take.ensures.1 c.in_err-take.was is))
+call-returns-in_err-take-clause-exceeds t c = λ is. call_stops_write c.args.r.now c.args.held.now c.args.tally.now c.args.v c.args.place (exprs_of c.args.es.now) c.requires.running.known c.requires.running.linked c.requires.fits c.callee-callee.result c.callee-callee.ensures.linked c.callee-callee.ensures.tables c.callee-callee.ensures.at c.callee-callee.ensures.earlier c.callee-callee.ensures.kernel c.values_of.new.tally c.values_of.new.values.items c.in_ok-values_of.ensures.numbers.0 c.in_ok-values_of.ensures.numbers.1 (subst (λ t. Runs c.args.r.now (argument_items (exprs_of c.args.es.now)) (λ st. st) (pushed c.values_of.new.values.items) c.args.held.now t c.args.held.now c.values_of.new.tally) c.spare.ensures c.in_ok-values_of.ensures.runs) c.numbers.result c.numbers.ensures c.start.new.self (c.in_ok-start.ensures c.callee-callee.result.kernel.now (callee_valid c.args.r.now c.args.held.now c.args.tally.now c.args.v c.args.place (exprs_of c.args.es.now) c.requires.running.known c.requires.running.linked c.requires.fits c.callee-callee.result c.callee-callee.ensures.linked c.callee-callee.ensures.tables c.callee-callee.ensures.at c.callee-callee.ensures.earlier c.callee-callee.ensures.kernel) (sym c.vars.ensures) (ap length c.as_slice.ensures.value ∙ (c.in_ok-values_of.ensures.numbers.0 ∙ sym (arity c.args.r.now c.args.held.now c.args.tally.now c.args.v c.args.place (exprs_of c.args.es.now) c.requires.running.known c.requires.running.linked c.requires.fits c.callee-callee.result c.callee-callee.ensures.linked c.callee-callee.ensures.tables c.callee-callee.ensures.at c.callee-callee.ensures.earlier c.callee-callee.ensures.kernel))) ∙ ap (fresh c.callee-callee.result.kernel.now) c.as_slice.ensures.value) c.enter.new.self (c.in_ok-enter.ensures.ok ∙ ap (λ g. with_entry c.values_of.new.tally g c.numbers.result) c.at-2.ensures) c.block.new.held c.block.new.tally (subst (λ ss. Runs c.callee-callee.result (items (block_of ss)) (λ st. st) (λ st. st) c.start.new.self c.enter.new.self c.block.new.held c.block.new.tally) c.body.ensures.statements c.in_ok-block.ensures.runs) (c.take.ensures.steps (steps_from c.take.result c.from_residual-in_err-take.result c.in_err-take.field-0.0 c.from_residual-in_err-take.ensures.1 c.in_err-take.was is))
 
 pub call-write-requires : goal.call-write-requires
 call-write-requires t c = scalar_long c.args.r.now.kernel.now c.args.held.now c.args.v c.requires.running.shape c.requires.fits.0
 
 pub call-returns-clause-runs : goal.call-returns-clause-runs
-call-returns-clause-runs t c = call_goes c.args.r.now c.args.held.now c.args.tally.now c.args.v c.args.place (exprs_of c.args.es.now) c.requires.running.known c.requires.running.linked c.requires.fits c.callee-callee.result c.callee-callee.ensures.linked c.callee-callee.ensures.tables c.callee-callee.ensures.at c.callee-callee.ensures.earlier c.callee-callee.ensures.kernel c.values_of.new.tally c.in_ok-arguments.arguments.items c.in_ok-arguments.ensures.numbers.0 c.in_ok-arguments.ensures.numbers.1 c.in_ok-arguments.ensures.runs c.numbers.result c.numbers.ensures c.in_ok-inner.inner (c.in_ok-inner.ensures c.callee-callee.result.kernel.now (callee_valid c.args.r.now c.args.held.now c.args.tally.now c.args.v c.args.place (exprs_of c.args.es.now) c.requires.running.known c.requires.running.linked c.requires.fits c.callee-callee.result c.callee-callee.ensures.linked c.callee-callee.ensures.tables c.callee-callee.ensures.at c.callee-callee.ensures.earlier c.callee-callee.ensures.kernel) (sym c.vars.ensures) (ap length c.as_slice.ensures.value ∙ (c.in_ok-arguments.ensures.numbers.0 ∙ sym (arity c.args.r.now c.args.held.now c.args.tally.now c.args.v c.args.place (exprs_of c.args.es.now) c.requires.running.known c.requires.running.linked c.requires.fits c.callee-callee.result c.callee-callee.ensures.linked c.callee-callee.ensures.tables c.callee-callee.ensures.at c.callee-callee.ensures.earlier c.callee-callee.ensures.kernel))) ∙ ap (fresh c.callee-callee.result.kernel.now) c.as_slice.ensures.value) c.enter.new.self (c.in_ok-enter.ensures.ok ∙ ap (λ g. with_entry c.values_of.new.tally g c.numbers.result) c.at.ensures) c.block.new.held c.block.new.tally (subst (λ ss. Runs c.callee-callee.result (items (block_of ss)) (λ st. st) (λ st. st) c.in_ok-inner.inner c.enter.new.self c.block.new.held c.block.new.tally) c.body.ensures.statements c.in_ok-block.ensures.runs) c.at-2.result c.write_label.result c.write.ensures (search rules) c.in_ok-take.ensures.ok c.at-2.ensures c.write_label.ensures
+call-returns-clause-runs t c = call_goes c.args.r.now c.args.held.now c.args.tally.now c.args.v c.args.place (exprs_of c.args.es.now) c.requires.running.known c.requires.running.linked c.requires.fits c.callee-callee.result c.callee-callee.ensures.linked c.callee-callee.ensures.tables c.callee-callee.ensures.at c.callee-callee.ensures.earlier c.callee-callee.ensures.kernel c.values_of.new.tally c.values_of.new.values.items c.in_ok-values_of.ensures.numbers.0 c.in_ok-values_of.ensures.numbers.1 (subst (λ t. Runs c.args.r.now (argument_items (exprs_of c.args.es.now)) (λ st. st) (pushed c.values_of.new.values.items) c.args.held.now t c.args.held.now c.values_of.new.tally) c.spare.ensures c.in_ok-values_of.ensures.runs) c.numbers.result c.numbers.ensures c.start.new.self (c.in_ok-start.ensures c.callee-callee.result.kernel.now (callee_valid c.args.r.now c.args.held.now c.args.tally.now c.args.v c.args.place (exprs_of c.args.es.now) c.requires.running.known c.requires.running.linked c.requires.fits c.callee-callee.result c.callee-callee.ensures.linked c.callee-callee.ensures.tables c.callee-callee.ensures.at c.callee-callee.ensures.earlier c.callee-callee.ensures.kernel) (sym c.vars.ensures) (ap length c.as_slice.ensures.value ∙ (c.in_ok-values_of.ensures.numbers.0 ∙ sym (arity c.args.r.now c.args.held.now c.args.tally.now c.args.v c.args.place (exprs_of c.args.es.now) c.requires.running.known c.requires.running.linked c.requires.fits c.callee-callee.result c.callee-callee.ensures.linked c.callee-callee.ensures.tables c.callee-callee.ensures.at c.callee-callee.ensures.earlier c.callee-callee.ensures.kernel))) ∙ ap (fresh c.callee-callee.result.kernel.now) c.as_slice.ensures.value) c.enter.new.self (c.in_ok-enter.ensures.ok ∙ ap (λ g. with_entry c.values_of.new.tally g c.numbers.result) c.at-2.ensures) c.block.new.held c.block.new.tally (subst (λ ss. Runs c.callee-callee.result (items (block_of ss)) (λ st. st) (λ st. st) c.start.new.self c.enter.new.self c.block.new.held c.block.new.tally) c.body.ensures.statements c.in_ok-block.ensures.runs) c.at-3.result c.write_label.result c.write.ensures (search rules) (c.keep.ensures ∙ c.in_ok-take.ensures.ok) c.at-3.ensures c.write_label.ensures
 
 pub choose-returns-in_err-z-clause-exceeds : goal.choose-returns-in_err-z-clause-exceeds
 choose-returns-in_err-z-clause-exceeds t c = λ is. if_stops_first c.args.r.now (expr_of c.args.e.now) (block_of c.args.s.statements.now) (block_of c.args.t.statements.now) c.args.held.now c.args.tally.now (c.value_of.ensures.exceeds (steps_from c.value_of.result c.from_residual.result c.in_err-z.field-0.0 c.from_residual.ensures.1 c.in_err-z.was is))

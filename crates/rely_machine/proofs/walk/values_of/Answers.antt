@@ -11,7 +11,7 @@ use Rattle.rely_machine.proofs.Walking.{nothing}
 use Rattle.rely_machine.proofs.walk.values_of.Goals as goal
 
 pub loop-e-init : goal.loop-e-init
-loop-e-init c = rw c.new-values.ensures.items (nothing c.args.r.now (λ st. st) c.args.held.now c.args.tally.now c.requires.running, refl, tt)
+loop-e-init c = rw c.clear.ensures.items (nothing c.args.r.now (λ st. st) c.args.held.now c.args.tally.now c.requires.running, refl, tt)
 
 pub value_of-requires-clause-running : goal.value_of-requires-clause-running
 value_of-requires-clause-running c = c.loop-e.invariant.0.running

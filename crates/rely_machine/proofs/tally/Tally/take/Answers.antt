@@ -10,4 +10,5 @@ invariant_of-self c =
       take_bounded c.self.inside.uses.items c.self-2.inside.uses.items c.self.inside.steps c.self-2.inside.steps c.args.function c.args.label
           c.index.result.now c.index_mut.result.now c.as_slice.result.now c.set.new.self (ap (λ (t : Counts). t.uses) walked) (ap (λ (t : Counts). t.steps) walked) c.self.invariant.1
           (rw (ap (λ (t : Counts). t.uses) c.self.view_is) c.requires) c.index.ensures c.as_slice.ensures c.index_mut.ensures.value c.set.ensures,
+      c.self-2.invariant.2,
     )

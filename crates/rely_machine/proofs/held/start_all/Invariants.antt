@@ -1,0 +1,6 @@
+use Rattle.std.proofs.Common.{◌≡◌, ◌++◌, take, drop}
+use Rattle.rely_machine.specs.Starts.{started}
+use Rattle.rely_machine.proofs.held.start_all.Given as goal
+
+abbrev pub invariant-loop-i : goal.invariant-loop-i
+invariant-loop-i l = l.cells.items ≡ take l.i (started l.vars l.arguments) ++ drop l.i l.initial.cells.items
