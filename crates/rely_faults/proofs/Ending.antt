@@ -4,17 +4,18 @@ use Rattle.std.specs.List.{AllByRecursion}
 use Rattle.rand_pcg.specs.Lcg.{Lcg}
 use Rattle.rely_kernel.specs.declared.kernel.Kernel.{Kernel}
 use Rattle.rely_kernel.specs.declared.kernel.St.{St}
+use Rattle.rely_kernel.specs.declared.setting.Setting.{Setting}
 use Rattle.rely_kernel.specs.declared.setting.Store.{Store}
-use Rattle.rely_kernel.specs.Bound.{IsStart}
+use Rattle.rely_hard.specs.declared.hardware.Hardware.{Hardware}
 use Rattle.rely_kernel.specs.Machine.{items}
-use Rattle.rely_kernel.specs.Setting.{Fits}
 use Rattle.rely_kernel.specs.Text.{Stmt, Block, done, ◌then◌, block_of}
 use Rattle.rely_kernel.specs.Valid.{BlockFits, BodyFits, IsValid, PlaceFits, StmtFits, block_calls, stmt_calls}
 use Rattle.rely_kernel.specs.Running.{AllFine}
 use Rattle.rely_kernel.proofs.Fine.{fine_body}
 use Rattle.rely_faults.specs.declared.outcome.Tried.{Tried}
 use Rattle.rely_faults.specs.declared.running.Running.{Running}
-use Rattle.rely_faults.specs.Going.{Counts, Ends, Exceeds, IsRunning, Runs, Stands, here, standing}
+use Rattle.rely_faults.specs.Going.{Counts, Ends, Exceeds, Runs, Stands, here, outcome_of, setup_of, standing}
+use Rattle.rely_faults.specs.Setup.{Stops, Tries}
 use Rattle.rely_faults.specs.Trial.{IsTried, LeavesWords, PassesLimit, StopsAt, Trying, first, tried_after, tried_through}
 
 -- ---- a kernel without a call place calls nothing
@@ -60,57 +61,59 @@ abbrev pub no_counts : ℕ → Counts
 no_counts limit = record { taken = 0; steps = 0; limit = limit }
 
 module _ (r : Running) (start : Store) (g : Lcg) (limit : ℕ) where
-  pub starts_running : Fits r.kernel.now r.hardware.now r.setting.now → IsStart r.kernel.now start → IsRunning r start
-  starts_running fits begins = record { fits = fits; shape = begins.shape }
-
   begins_at : Stands r (first r.kernel.now start g) (standing (items (block_of r.kernel.now.body) []) [] start) (here start (no_counts limit) g)
   unfolding tried_after tried_through
   begins_at = record { n = 0; leads = refl; steps = refl }
 
-  pub at_once : limit ≡ 0 → PassesLimit r.kernel.now r.hardware.now r.setting.now start g limit
-  at_once none = record { n = 0; steps = omega (arith, none) }
-
-  pub stops_at_once : limit ≡ 0 → StopsAt r.kernel.now r.hardware.now r.setting.now start g limit g
+  pub stops_at_once : limit ≡ 0 → Stops (setup_of r) start g limit g
   unfolding tried_after
   stops_at_once none = record { n = 0; words_left = refl; before = λ some. absurd (omega (arith, some)); reached = omega (arith, none) }
 
-  pub untouched : LeavesWords r.kernel.now r.hardware.now r.setting.now start g g
-  unfolding tried_after
-  untouched = record { n = 0; words_left = refl }
-
-  module _ (t : Counts) (t_is : t ≡ no_counts limit) (held : Store) (held_is : held ≡ start) (body : List St) (body_is : body ≡ r.kernel.now.body) where
-    module _ (g' : Lcg) (h : Exceeds r (items (block_of body)) (λ st. st) (here held t g) g') where
+  module _ (t : Counts) (t_is : t ≡ no_counts limit) (body : List St) (body_is : body ≡ r.kernel.now.body) where
+    module _ (g' : Lcg) (h : Exceeds r (items (block_of body)) (λ st. st) (here start t g) g') where
       ended : Ends r (first r.kernel.now start g) limit g'
       ended =
           let from_start : Exceeds r (items (block_of r.kernel.now.body)) (λ st. st) (here start (no_counts limit) g) g' =
-          rw (← t_is, ← held_is) (subst (λ ss. Exceeds r (items (block_of ss)) (λ st. st) (here held t g) g') body_is h) in
+          rw (← t_is) (subst (λ ss. Exceeds r (items (block_of ss)) (λ st. st) (here start t g) g') body_is h) in
           from_start.ends (first r.kernel.now start g) [] [] begins_at
 
-      pub passes : PassesLimit r.kernel.now r.hardware.now r.setting.now start g limit
-      passes = record { n = suc ended.n; steps = ended.reached }
-
-      pub stops : StopsAt r.kernel.now r.hardware.now r.setting.now start g limit g'
+      pub stops : Stops (setup_of r) start g limit g'
       stops = record { n = ended.n; words_left = ended.words; before = λ some. ended.before; reached = ended.reached }
 
-      pub leaves : LeavesWords r.kernel.now r.hardware.now r.setting.now start g g'
-      leaves = record { n = ended.n; words_left = ended.words }
-
-    module _ (s : Store) (u : Counts) (g' : Lcg) (h : Runs r (items (block_of body)) (λ st. st) (λ st. st) (here held t g) (here s u g')) where
+    module _ (s : Store) (u : Counts) (g' : Lcg) (h : Runs r (items (block_of body)) (λ st. st) (λ st. st) (here start t g) (here s u g')) where
       at_end : Stands r (first r.kernel.now start g) (standing [] [] s) (here s u g')
       at_end =
           let from_start : Runs r (items (block_of r.kernel.now.body)) (λ st. st) (λ st. st) (here start (no_counts limit) g) (here s u g') =
-          rw (← t_is, ← held_is) (subst (λ ss. Runs r (items (block_of ss)) (λ st. st) (λ st. st) (here held t g) (here s u g')) body_is h) in
+          rw (← t_is) (subst (λ ss. Runs r (items (block_of ss)) (λ st. st) (λ st. st) (here start t g) (here s u g')) body_is h) in
           from_start.goes (first r.kernel.now start g) [] [] begins_at
 
-      pub tried_is : (o : Tried) → o.store ≡ s → o.steps ≡ u.steps → o.words ≡ u.taken → IsTried r.kernel.now r.hardware.now r.setting.now start g o g'
-      tried_is o store steps words = record {
-        n = at_end.n;
-        end = standing [] [] s;
-        leads = at_end.leads ∙ ap (λ m. record { config = standing [] [] s; words = g'; taken = m }) (sym words);
-        over = refl;
-        store = store;
-        steps = steps ∙ at_end.steps;
-      }
+      pub tried_is : Tries (setup_of r) start g (outcome_of s u) g'
+      tried_is = record { n = at_end.n; end = standing [] [] s; leads = at_end.leads; over = refl; store = refl; steps = at_end.steps }
 
-      pub leaves_at_end : LeavesWords r.kernel.now r.hardware.now r.setting.now start g g'
-      leaves_at_end = record { n = at_end.n; words_left = ap (λ (x : Trying). x.words) at_end.leads }
+-- ---- what its end says
+
+module _ (k : Kernel) (h : Hardware) (t : Setting) (start : Store) (g : Lcg) where
+  pub untouched : LeavesWords k h t start g g
+  unfolding tried_after
+  untouched = record { n = 0; words_left = refl }
+
+  module _ (limit : ℕ) (g' : Lcg) (x : StopsAt k h t start g limit g') where
+    pub passes_by : PassesLimit k h t start g limit
+    passes_by = record { n = suc x.n; steps = x.reached }
+
+    pub leaves_by : LeavesWords k h t start g g'
+    leaves_by = record { n = x.n; words_left = x.words_left }
+
+  module _ (g' : Lcg) (p : Tried) (x : IsTried k h t start g p g') where
+    pub leaves_at_end : LeavesWords k h t start g g'
+    leaves_at_end = record { n = x.n; words_left = ap (λ (y : Trying). y.words) x.leads }
+
+    pub tried_as : (o : Tried) → o.store ≡ p.store → o.steps ≡ p.steps → o.words ≡ p.words → IsTried k h t start g o g'
+    tried_as o store steps words = record {
+      n = x.n;
+      end = x.end;
+      leads = x.leads ∙ ap (λ m. record { config = x.end; words = g'; taken = m }) (sym words);
+      over = x.over;
+      store = store ∙ x.store;
+      steps = steps ∙ x.steps;
+    }

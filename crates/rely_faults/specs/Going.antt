@@ -7,6 +7,8 @@ use Rattle.rely_kernel.specs.Bound.{HasShape}
 use Rattle.rely_kernel.specs.Machine.{Config, Item}
 use Rattle.rely_kernel.specs.Setting.{Fits}
 use Rattle.rely_faults.specs.declared.running.Running.{Running}
+use Rattle.rely_faults.specs.declared.outcome.Tried.{Tried}
+use Rattle.rely_faults.specs.Setup.{Setup}
 use Rattle.rely_faults.specs.Trial.{Draw, Trying, draw, trial_after, trial_steps}
 
 -- ---- counts
@@ -37,6 +39,14 @@ pub record IsFull (t : Counts) : Type 0 where
   pub many : t.limit ≤ t.steps + 1
 
 -- ---- trials
+
+-- what runs, without its references
+abbrev pub setup_of : Running → Setup
+setup_of r = record { kernel = r.kernel.now; hardware = r.hardware.now; setting = r.setting.now }
+
+-- what a trial leaves, by the store and the counts at its end
+abbrev pub outcome_of : Store → Counts → Tried
+outcome_of s t = record { store = s; steps = t.steps; words = t.taken }
 
 -- what the code holds: the store, the counts and the generator
 pub record Point : Type 0 where

@@ -1,4 +1,5 @@
 pub mod Going
 pub mod Laws
 pub mod Listed
+pub mod Setup
 pub mod Trial

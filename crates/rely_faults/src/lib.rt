@@ -7,6 +7,7 @@ mod laws;
 mod outcome;
 mod running;
 mod seeded;
+mod simulator;
 mod tally;
 mod walk;
 
@@ -14,5 +15,6 @@ pub use laws::{
     each_step_follows, ends_or_passes, enough_words_end, has_outcome, more_words_are_left,
     one_outcome, one_trial, words_are_generated, words_are_taken,
 };
-pub use outcome::Tried;
+pub use outcome::{Ended, Tried};
 pub use seeded::trial;
+pub use simulator::Simulator;

@@ -8,3 +8,10 @@ pub struct Tried {
     /// How many words of the generator it took.
     pub words: u64,
 }
+
+/// What is told of a trial whose store isn't kept.
+#[derive(Clone, Copy, Debug)]
+pub struct Ended {
+    pub result: i64,
+    pub steps: u64,
+}
