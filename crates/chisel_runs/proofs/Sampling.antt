@@ -15,15 +15,15 @@ use Rattle.rely_kernel.specs.Rates.{own}
 use Rattle.rely_machine.specs.declared.outcome.Outcome.{Outcome}
 use Rattle.rely_machine.specs.Cost.{IsCost}
 use Rattle.rely_machine.specs.Run.{IsOutcome, ReachesLimit}
+use Rattle.rely_faults.specs.declared.outcome.Ended.{Ended}
 use Rattle.rely_faults.specs.declared.outcome.Tried.{Tried}
 use Rattle.rely_faults.specs.Trial.{PassesLimit}
 use Rattle.chisel_words.specs.declared.options.Trials.{Trials}
 use Rattle.chisel_lines.specs.SampleLines.{energy_line, sample_lines}
 use Rattle.chisel_lines.specs.declared.sample.SampleEnd.{SampleEnd}
-use Rattle.chisel_runs.specs.declared.course.Course.{Course}
 use Rattle.rely_machine.specs.declared.fault.RunFault.{RunFault}
 use Rattle.chisel_ready.specs.declared.ready.Ready.{Ready}
-use Rattle.chisel_runs.specs.Courses.{Agreed, Exceeds, Sampled, Simulates, Took}
+use Rattle.chisel_runs.specs.Courses.{Agreed, EndsTrial, Exceeds, Sampled, Simulates, Stage, Took}
 use Rattle.chisel_runs.specs.Calls.{barred_call}
 use Rattle.chisel_runs.specs.Simulations.{AreSamples, AreTrials, IsSample, IsTrial, RunsPass, RunsTell, Sample, SamplePasses, TrialsPass, end_of, most_steps, seeded, steps_of}
 
@@ -47,18 +47,25 @@ pub counted_no : (n m : ℕ) (p b : Bool) → b ≡ p → b ≡ false → m ≡ 
 counted_no n m true b same is e = absurd (cc)
 counted_no n m false b same is e = omega (arith, e)
 
-module _ (r : Ready) (s : Store) (wanted : ℤ) (a b : Course) (done n : ℕ) (agreed : Agreed r done s wanted a b n) where
-  pub agreed_more : (c : Course) (t : Tried) (m : ℕ) → IsTrial r s b.words t c.words → Took t.steps b c → m ≡ n + cond (int_eq t.store.result wanted) 1 0
-      → Agreed r (done + 1) s wanted a c m
-  agreed_more c t m is took counted =
+module _ (s : Store) (wanted : ℤ) (a b : Stage) (done n : ℕ) (agreed : Agreed a.ready done s wanted a b n) where
+  pub agreed_more : (c : Stage) (e : Ended) (m : ℕ) → EndsTrial b.ready s b.words e c.words → Took e.steps b c → m ≡ n + cond (int_eq e.result wanted) 1 0
+      → Agreed a.ready (done + 1) s wanted a c m
+  agreed_more c e m ends took counted =
+      let t = ends.tried in
+      let is : IsTrial a.ready s b.words t c.words = subst (λ (x : Ready). IsTrial x s b.words t c.words) agreed.took.ready ends.is in
       let total = sum_by_push (λ (u : Tried). u.steps) agreed.trials t in
       let count = sum_by_push (λ (u : Tried). cond (int_eq u.store.result wanted) 1 0) agreed.trials t in
+      let one = ap {B = ℕ} (λ (z : ℤ). cond (int_eq z wanted) 1 0) ends.result in
       record {
         trials = agreed.trials ++ t ∷ [];
-        each = trials_push r s agreed.trials a.words b.words c.words t agreed.each is;
+        each = trials_push a.ready s agreed.trials a.words b.words c.words t agreed.each is;
         many = let long = length-append agreed.trials (t ∷ []) in omega (arith, agreed.many, long);
-        agree = omega (arith, counted, count, agreed.agree);
-        took = record { total = omega (arith, total, took.total, agreed.took.total); some = took.some };
+        agree = omega (arith, counted, one, count, agreed.agree);
+        took = record {
+          ready = took.ready ∙ agreed.took.ready;
+          total = omega (arith, total, took.total, ends.steps, agreed.took.total);
+          some = took.some;
+        };
       }
 
   -- no more agree than there are trials
@@ -69,8 +76,8 @@ module _ (r : Ready) (s : Store) (wanted : ℤ) (a b : Course) (done n : ℕ) (a
   few_left most few = omega (arith, few, agreed.took.total)
 
   -- the next one takes too many steps
-  pub trials_pass : (count : ℕ) (f : RunFault) → done < count → Exceeds (PassesLimit r.linked.kernel r.hardware (own r.linked.kernel) s b.words b.left) f
-      → Exceeds (TrialsPass r count s a.words a.left) f
+  pub trials_pass : (count : ℕ) (f : RunFault) → done < count
+      → Exceeds (PassesLimit b.ready.linked.kernel b.ready.hardware (own b.ready.linked.kernel) s b.words b.left) f → Exceeds (TrialsPass a.ready count s a.words a.left) f
   trials_pass count f more e =
       exceeds_by _ _ f (λ passes.
       record {
@@ -80,24 +87,29 @@ module _ (r : Ready) (s : Store) (wanted : ℤ) (a b : Course) (done n : ℕ) (a
         fewer = omega (arith, more, agreed.many);
         left = b.left;
         total = agreed.took.total;
-        passes = passes;
+        passes = subst (λ (x : Ready). PassesLimit x.linked.kernel x.hardware (own x.linked.kernel) s b.words b.left) agreed.took.ready passes;
       }) e
 
 -- ---- samples
 
-module _ (r : Ready) (count : ℕ) (s : Store) (o : Outcome) (a b : Course) (is : IsOutcome r.linked s o) (took : Took o.steps a b) (same : b.words ≡ a.words) where
-  pub sampled : (c : Course) (n : ℕ) (end : SampleEnd) → Agreed r count s o.store.result b c n → end ≡ record { result = o.store.result; steps = o.steps; agreeing = n }
-      → Sampled r count s a c o end
-  sampled c n end agreed told = record {
-    sample = record { outcome = o; trials = agreed.trials };
-    is = record { outcome = is; trials = subst (λ (g : Lcg). AreTrials r s g agreed.trials c.words) same agreed.each; many = agreed.many };
-    outcome_of = refl;
-    told = told ∙ ap (λ m. record { result = o.store.result; steps = o.steps; agreeing = m }) agreed.agree;
-    took = record { total = omega (arith, took.total, agreed.took.total); some = agreed.took.some };
-  }
+module _ (count : ℕ) (s : Store) (o : Outcome) (a b : Stage) (is : IsOutcome a.ready.linked s o) (took : Took o.steps a b) (same : b.words ≡ a.words) where
+  pub sampled : (c : Stage) (n : ℕ) (end : SampleEnd) → Agreed b.ready count s o.store.result b c n → end ≡ record { result = o.store.result; steps = o.steps; agreeing = n }
+      → Sampled a.ready count s a c o end
+  sampled c n end agreed told =
+      let each = subst (λ (x : Ready). AreTrials x s b.words agreed.trials c.words) took.ready agreed.each in
+      record {
+        sample = record { outcome = o; trials = agreed.trials };
+        is = record { outcome = is; trials = subst (λ (g : Lcg). AreTrials a.ready s g agreed.trials c.words) same each; many = agreed.many };
+        outcome_of = refl;
+        told = told ∙ ap (λ m. record { result = o.store.result; steps = o.steps; agreeing = m }) agreed.agree;
+        took = record { ready = agreed.took.ready ∙ took.ready; total = omega (arith, took.total, agreed.took.total); some = agreed.took.some };
+      }
 
-  pub trials_exceed : (f : RunFault) → Exceeds (TrialsPass r count s b.words b.left) f → Exceeds (SamplePasses r count s a.words a.left) f
-  trials_exceed f e = exceeds_by _ _ f (λ passes. inr (o, b.left, is, took.total, subst (λ (g : Lcg). TrialsPass r count s g b.left) same passes)) e
+  pub trials_exceed : (f : RunFault) → Exceeds (TrialsPass b.ready count s b.words b.left) f → Exceeds (SamplePasses a.ready count s a.words a.left) f
+  trials_exceed f e =
+      exceeds_by _ _ f (λ passes.
+      let here = subst (λ (x : Ready). TrialsPass x count s b.words b.left) took.ready passes in
+      inr (o, b.left, is, took.total, subst (λ (g : Lcg). TrialsPass a.ready count s g b.left) same here)) e
 
 pub run_exceeds : (r : Ready) (count : ℕ) (s : Store) (g : Lcg) (limit : ℕ) (f : RunFault) → Exceeds (ReachesLimit r.linked s limit) f → Exceeds (SamplePasses r count s g limit) f
 run_exceeds r count s g limit f e = exceeds_by _ _ f inl e
@@ -111,7 +123,8 @@ samples_push r count (t ∷ ss) [] g h g' s x each is = absurd each
 samples_push r count (t ∷ ss) (y ∷ xs) g h g' s x each is = (each.0, each.1, samples_push r count ss xs each.0 h g' s x each.2 is)
 
 -- the first samples, and what is left of the steps
-pub record Sampling (r : Ready) (trials : Trials) (front : List Store) (outcomes : List Outcome) (ends : List SampleEnd) (course : Course) : Type 0 where
+pub record Sampling (r : Ready) (trials : Trials) (front : List Store) (outcomes : List Outcome) (ends : List SampleEnd) (course : Stage) : Type 0 where
+  pub ready : course.ready ≡ r
   pub samples : List Sample
   pub each : AreSamples r trials.count front (seeded trials.seed) samples course.words
   pub total : sum_by steps_of samples + course.left ≡ most_steps
@@ -119,18 +132,30 @@ pub record Sampling (r : Ready) (trials : Trials) (front : List Store) (outcomes
   pub outcomes_of : outcomes ≡ map (λ x. x.outcome) samples
   pub told : ends ≡ map end_of samples
 
-pub no_sample : (r : Ready) (trials : Trials) (course : Course) → course.words ≡ seeded trials.seed → course.left ≡ most_steps → Sampling r trials [] [] [] course
-no_sample r trials course words left = record { samples = []; each = words; total = omega (arith, left); some = omega (arith, left); outcomes_of = refl; told = refl }
+pub no_sample : (r : Ready) (trials : Trials) (course : Stage) → course ≡ record { ready = r; left = most_steps; words = seeded trials.seed } → Sampling r trials [] [] [] course
+no_sample r trials course is =
+    let left = ap (λ (c : Stage). c.left) is in
+    record {
+      ready = ap (λ (c : Stage). c.ready) is;
+      samples = [];
+      each = ap (λ (c : Stage). c.words) is;
+      total = omega (arith, left);
+      some = omega (arith, left);
+      outcomes_of = refl;
+      told = refl;
+    }
 
-module _ (r : Ready) (trials : Trials) (starts : List Store) (i : ℕ) (d : Store) (outcomes : List Outcome) (ends : List SampleEnd) (b : Course)
+module _ (r : Ready) (trials : Trials) (starts : List Store) (i : ℕ) (d : Store) (outcomes : List Outcome) (ends : List SampleEnd) (b : Stage)
     (within : i < length starts) (sampling : Sampling r trials (take i starts) outcomes ends b) where
-  pub sampling_more : (s : Store) (c : Course) (o : Outcome) (end : SampleEnd) → s ≡ get_or starts i d → Sampled r trials.count s b c o end
+  pub sampling_more : (s : Store) (c : Stage) (o : Outcome) (end : SampleEnd) → s ≡ get_or starts i d → Sampled b.ready trials.count s b c o end
       → Sampling r trials (take (i + 1) starts) (outcomes ++ o ∷ []) (ends ++ end ∷ []) c
   sampling_more s c o end at x =
       let total = sum_by_push steps_of sampling.samples x.sample in
-      let here : IsSample r trials.count (get_or starts i d) b.words x.sample c.words = subst (λ (t : Store). IsSample r trials.count t b.words x.sample c.words) at x.is in
+      let there = subst (λ (y : Ready). IsSample y trials.count s b.words x.sample c.words) sampling.ready x.is in
+      let here : IsSample r trials.count (get_or starts i d) b.words x.sample c.words = subst (λ (t : Store). IsSample r trials.count t b.words x.sample c.words) at there in
       let each = samples_push r trials.count (take i starts) sampling.samples (seeded trials.seed) b.words c.words (get_or starts i d) x.sample sampling.each here in
       record {
+        ready = x.took.ready ∙ sampling.ready;
         samples = sampling.samples ++ x.sample ∷ [];
         each = subst (λ (ss : List Store). AreSamples r trials.count ss (seeded trials.seed) (sampling.samples ++ x.sample ∷ []) c.words) (sym (take_more starts i d within)) each;
         total = omega (arith, total, sampling.total, x.took.total);
@@ -143,7 +168,7 @@ module _ (r : Ready) (trials : Trials) (starts : List Store) (i : ℕ) (d : Stor
   pub few_steps : b.left ≤ most_steps
   few_steps = omega (arith, sampling.total)
 
-  pub runs_exceed : (s : Store) (f : RunFault) → s ≡ get_or starts i d → Exceeds (SamplePasses r trials.count s b.words b.left) f → Exceeds (RunsPass r trials starts) f
+  pub runs_exceed : (s : Store) (f : RunFault) → s ≡ get_or starts i d → Exceeds (SamplePasses b.ready trials.count s b.words b.left) f → Exceeds (RunsPass r trials starts) f
   runs_exceed s f at e =
       exceeds_by _ _ f (λ passes.
       record {
@@ -156,10 +181,10 @@ module _ (r : Ready) (trials : Trials) (starts : List Store) (i : ℕ) (d : Stor
         each = sampling.each;
         left = b.left;
         total = sampling.total;
-        passes = subst (λ (t : Store). SamplePasses r trials.count t b.words b.left) at passes;
+        passes = subst (λ (t : Store). SamplePasses r trials.count t b.words b.left) at (subst (λ (y : Ready). SamplePasses y trials.count s b.words b.left) sampling.ready passes);
       }) e
 
-pub simulates : (r : Ready) (trials : Trials) (starts : List Store) (outcomes : List Outcome) (ends : List SampleEnd) (c : Course)
+pub simulates : (r : Ready) (trials : Trials) (starts : List Store) (outcomes : List Outcome) (ends : List SampleEnd) (c : Stage)
     → Sampling r trials starts outcomes ends c → Simulates r trials starts outcomes ends
 simulates r trials starts outcomes ends c x = record {
   samples = x.samples;

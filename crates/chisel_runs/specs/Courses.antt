@@ -4,10 +4,12 @@ use Rattle.std.specs.Ordering.{int_eq}
 use Rattle.rand_pcg.specs.Lcg.{Lcg}
 use Rattle.rely_kernel.specs.declared.setting.Store.{Store}
 use Rattle.rely_machine.specs.declared.outcome.Outcome.{Outcome}
+use Rattle.rely_faults.specs.declared.outcome.Ended.{Ended}
 use Rattle.rely_faults.specs.declared.outcome.Tried.{Tried}
+use Rattle.rely_faults.specs.Setup.{EndsAs, Setup}
+use Rattle.rely_kernel.specs.Rates.{own}
 use Rattle.chisel_words.specs.declared.options.Trials.{Trials}
 use Rattle.chisel_lines.specs.declared.sample.SampleEnd.{SampleEnd}
-use Rattle.chisel_runs.specs.declared.course.Course.{Course}
 use Rattle.rely_machine.specs.declared.fault.RunFault.{RunFault}
 use Rattle.rely_machine.specs.declared.fault.RunFault.TheVariants as fault
 use Rattle.chisel_ready.specs.declared.ready.Ready.{Ready}
@@ -17,13 +19,28 @@ use Rattle.chisel_runs.specs.Simulations.{AreSamples, AreTrials, IsSample, Sampl
 abbrev pub Exceeds : Type 0 → RunFault → Type 0
 Exceeds P f = (f ≡ fault.Memory) ⊎ ((f ≡ fault.Steps) × P)
 
--- so many steps were taken, and some are left
-pub record Took (steps : ℕ) (old new : Course) : Type 0 where
+-- what is run, the steps that are left, and the generator
+pub record Stage : Type 0 where
+  pub ready : Ready
+  pub left : ℕ
+  pub words : Lcg
+
+-- its trials, under the function's own kinds and memories
+abbrev pub own_setup : Ready → Setup
+own_setup r = record { kernel = r.linked.kernel; hardware = r.hardware; setting = own r.linked.kernel }
+
+-- what is told of a trial
+abbrev pub EndsTrial : Ready → Store → Lcg → Ended → Lcg → Type 0
+EndsTrial r s g e g' = EndsAs (own_setup r) s g e g'
+
+-- so many steps of the same were taken, and some are left
+pub record Took (steps : ℕ) (old new : Stage) : Type 0 where
+  pub ready : new.ready ≡ old.ready
   pub total : steps + new.left ≡ old.left
   pub some : 0 < new.left
 
 -- so many trials from a start, and how many of them end with that result
-pub record Agreed (r : Ready) (count : ℕ) (s : Store) (result : ℤ) (old new : Course) (agreeing : ℕ) : Type 0 where
+pub record Agreed (r : Ready) (count : ℕ) (s : Store) (result : ℤ) (old new : Stage) (agreeing : ℕ) : Type 0 where
   pub trials : List Tried
   pub each : AreTrials r s old.words trials new.words
   pub many : length trials ≡ count
@@ -31,7 +48,7 @@ pub record Agreed (r : Ready) (count : ℕ) (s : Store) (result : ℤ) (old new 
   pub took : Took (sum_by (λ t. t.steps) trials) old new
 
 -- a sample, and what is told of it
-pub record Sampled (r : Ready) (count : ℕ) (s : Store) (old new : Course) (outcome : Outcome) (end : SampleEnd) : Type 0 where
+pub record Sampled (r : Ready) (count : ℕ) (s : Store) (old new : Stage) (outcome : Outcome) (end : SampleEnd) : Type 0 where
   pub sample : Sample
   pub is : IsSample r count s old.words sample new.words
   pub outcome_of : outcome ≡ sample.outcome

@@ -10,12 +10,10 @@ ghost use Rattle.chisel_runs.specs.Calls.{barred_call};
 ghost use Rattle.chisel_runs.specs.Simulations.{RunsPass, SamplePasses, most_steps};
 ghost use Rattle.chisel_runs.specs.Answer.{IsRunnable};
 
-use crate::course::{Course, MOST_STEPS, agreeing, reliable};
+use crate::course::Course;
 use chisel_lines::SampleEnd;
 use chisel_ready::Ready;
 use chisel_words::Trials;
-use rand_core::SeedableRng;
-use rand_pcg::Lcg128Xsl64;
 use rely_kernel::{Kernel, Setting, Store, own_setting};
 use rely_machine::{Outcome, RunFault};
 use std::alloc::{AllocError, Global};
@@ -54,25 +52,22 @@ fn end_of(outcome: &Outcome, agreeing: u64) -> SampleEnd
 /// The reliable run from a start, and then so many trials.
 fn sample(
     alloc: Global,
-    ready: &Ready,
-    setting: &Setting,
     start: &Store,
     count: u64,
     course: &mut Course,
 ) -> Result<(Outcome, SampleEnd), RunFault>
-    requires ready { IsRunnable ready.now }
-    requires own { setting.now ≡ own ready.now.linked.kernel }
-    requires start { IsStart ready.now.linked.kernel start.now }
-    requires calls { 0 < count → ready.now.linked.kernel.calls ≡ [] }
+    requires ready { IsRunnable course.old.ready }
+    requires start { IsStart course.old.ready.linked.kernel start.now }
+    requires calls { 0 < count → course.old.ready.linked.kernel.calls ≡ [] }
     requires left { course.old.left ≤ most_steps }
-    ensures ok { IfOk result (λ x. Sampled ready.now count start.now course.old course.new x.0 x.1) }
-    ensures err { IfErr result (Exceeds (SamplePasses ready.now count start.now course.old.words course.old.left)) }
+    ensures ok { IfOk result (λ x. Sampled course.old.ready count start.now course.old course.new x.0 x.1) }
+    ensures err { IfErr result (Exceeds (SamplePasses course.old.ready count start.now course.old.words course.old.left)) }
 {
-    let outcome = match reliable(alloc, &ready.linked, start, course) {
+    let outcome = match course.reliable(alloc, start) {
         Ok(outcome) => outcome,
         Err(fault) => return Err(fault),
     };
-    let agreeing = match agreeing(alloc, ready, setting, start, &outcome, count, course) {
+    let agreeing = match course.agreeing(start, &outcome, count) {
         Ok(agreeing) => agreeing,
         Err(fault) => return Err(fault),
     };
@@ -94,21 +89,11 @@ pub(crate) fn samples(
     ensures err { IfErr result (Exceeds (RunsPass ready.now trials starts.now)) }
 {
     let setting = own_kinds(alloc, &ready.linked.kernel)?;
-    let mut course = Course {
-        left: u64::from(MOST_STEPS),
-        words: Lcg128Xsl64::seed_from_u64(trials.seed),
-    };
+    let mut course = Course::new(alloc, ready, &setting, trials.seed)?;
     let mut outcomes = Vec::new(alloc);
     let mut ends = Vec::new(alloc);
     for start in starts {
-        let (outcome, end) = match sample(
-            alloc,
-            ready,
-            &setting,
-            start,
-            trials.count,
-            &mut course,
-        ) {
+        let (outcome, end) = match sample(alloc, start, trials.count, &mut course) {
             Ok(sample) => sample,
             Err(fault) => return Err(fault),
         };
