@@ -1,5 +1,6 @@
 //! A trial: a run of a kernel that calls nothing, in which each chance step is right or wrong by the words of a generator.
-//! The layers above use `trial` beside the reliable run of the same sample, and the laws that its outcome is one.
+//! The layers above make trials by a `Simulator` beside the reliable run of the same sample, and use the laws that the outcome
+//! of each is one.
 #![tactic(auto)]
 
 mod drawn;

@@ -1,17 +1,17 @@
 -- Idle statements are passed over: the run that stands before them stands behind them.
-use Rattle.std.proofs.Common.{◌≡◌, ℕ, zero, suc, ◌==◌, pos, negsuc, true, false, List, ◌∷◌, take, drop, length, inl, inr, refl, sym, ap, subst, ◌∙◌}
+use Rattle.std.proofs.Common.{◌≡◌, ℕ, zero, suc, ◌+◌, ◌≤◌, ◌==◌, pos, negsuc, true, false, List, ◌∷◌, take, drop, length, inl, inr, refl, sym, ap, subst, ◌∙◌, arith}
 use Rattle.std.specs.Prelude.{◌⊎◌}
 use Rattle.std.proofs.lemmas.Bool.{eqb-true, false≢true}
 use Rattle.rely_kernel.specs.declared.kernel.St.{St}
 use Rattle.rely_kernel.specs.declared.setting.Store.{Store}
-use Rattle.rely_kernel.specs.Machine.{Repeat, While, items, stmt_items}
+use Rattle.rely_kernel.specs.Machine.{Item, Repeat, While, items, stmt_items}
 use Rattle.rely_kernel.specs.Text.{Expr, Stmt, Block, done, ◌then◌, block_of, stmt_of}
 use Rattle.rely_machine.specs.declared.function.Function.{Function}
 use Rattle.rely_machine.specs.declared.live.Live.{Live}
-use Rattle.rely_machine.specs.Going.{Counts, Exceeds, IsRunning, Runs}
+use Rattle.rely_machine.specs.Going.{Counts, Exceeds, IsRunning, Runs, with_steps}
 use Rattle.rely_machine.specs.Idle.{all_idle, idle_choice, is_idle, table_of}
 use Rattle.rely_machine.proofs.Listing.{stmts_at}
-use Rattle.rely_machine.proofs.Looping.{Leads, if_goes, last_runs, leads_first, leads_same, picks_no, picks_yes, round_ends, rounds_end, then_exceeds, then_runs, turns_end}
+use Rattle.rely_machine.proofs.Looping.{Leads, if_goes, last_runs, leads_first, leads_same, picks_no, picks_yes, round_ends, rounds_end, steps_running, then_exceeds, then_runs, turn_goes, turns_end}
 use Rattle.rely_machine.proofs.Tables.{Left, Next, both, either, idle_left, left_whole, next_of}
 use Rattle.rely_machine.proofs.Walking.{and_then, nothing, push_runs}
 
@@ -56,6 +56,31 @@ module _ (r : Function) (s : Store) (t : Counts) (h : IsRunning r s t) where
     pub block_runs : (x : Block) → all_idle x ≡ true → Runs r (items x) (λ st. st) (λ st. st) s t s t
     block_runs done is = nothing r (λ st. st) s t h
     block_runs (x then rest) is = let b = both (is_idle x) (all_idle rest) is in and_then r (idle_runs x b.0) (block_runs rest b.1)
+
+-- ---- turns of an idle block
+
+module _ (r : Function) (x : Block) (idle : all_idle x ≡ true) (a : List Item → List Item) (s : Store) (t0 : Counts) where
+  pub idle_turns : (n m k : ℕ) (t u : Counts) → k ≡ n + m → u ≡ with_steps t n → Leads r a (λ more. Repeat k x ∷ more) s t0 s t → Leads r a (λ more. Repeat m x ∷ more) s t0 s u
+  idle_turns zero m k t u many is w =
+      let same : u ≡ t = is ∙ ap (λ i. record t { steps = i }) (omega arith) in
+      rw same (subst (λ i. Leads r a (λ more. Repeat i x ∷ more) s t0 s t) (omega (arith, many)) w)
+  idle_turns (suc n) m k t u many is w =
+      let t1 : Counts = with_steps t 1 in
+      let running : IsRunning r s t1 = steps_running r s t 1 w.running in
+      idle_turns n m (n + m) t1 u refl (is ∙ ap (λ i. record t { steps = i }) (omega arith))
+      (turn_goes r a x s s t0 t k (n + m) (omega (arith, many)) w refl (block_runs r s t1 running x idle))
+
+  -- all of them
+  pub idle_runs_all : (n : ℕ) (t u : Counts) → u ≡ with_steps t n → Leads r a (λ more. Repeat n x ∷ more) s t0 s t → Runs r a (λ st. st) (λ st. st) s t0 s u
+  idle_runs_all n t u is w = turns_end r a x s s t0 u 0 refl (idle_turns n 0 n t u (omega arith) is w)
+
+  -- or too many
+  pub idle_exceeds : (n : ℕ) (t : Counts) → t.limit ≡ t0.limit → t0.limit ≤ t.steps + n → Leads r a (λ more. Repeat n x ∷ more) s t0 s t → Exceeds r a (λ st. st) s t0
+  idle_exceeds n t limits over w = record {
+    takes = λ c more st fr stands.
+        let end = (idle_turns n 0 n t (with_steps t n) (omega arith) refl w).goes c more st fr stands in
+        record { n = end.n; steps = let e = end.steps in omega (arith, e, over) };
+  }
 
 -- ---- a block by its table
 

@@ -210,6 +210,9 @@ fn turns(
     ensures runs { OnOk result (Runs r.now (stmt_items (Stmt.Repeat n (block_of text.entry.statements.now))) (λ st. st) (λ st. st) held.old tally.old held.new tally.new) }
     ensures exceeds { result ≡ Err fault.Steps → Exceeds r.now (stmt_items (Stmt.Repeat n (block_of text.entry.statements.now))) (λ st. st) held.old tally.old }
 {
+    if text.live.is_empty() {
+        return tally.walk(u64::from(n));
+    }
     for _ in 0..n {
         tally.walk(1)?;
         block(r, text, held, tally)?;

@@ -1,19 +1,20 @@
-use Rattle.std.proofs.Common.{rules, ◌+◌, ◌-◌, ◌≤◌, ◌∷◌, length, take, drop, OnOk, sym, ap, subst, ◌∙◌, arith}
+use Rattle.std.proofs.Common.{rules, ◌+◌, ◌-◌, ◌≤◌, ◌∷◌, length, take, drop, OnOk, refl, sym, ap, subst, ◌∙◌, arith}
+use Rattle.std.proofs.lemmas.Bool.{eqb-true}
 use Rattle.std.proofs.lemmas.Result.{on_ok_weaker}
 use Rattle.rely_kernel.specs.declared.kernel.St.{St}
 use Rattle.rely_kernel.specs.Machine.{Call, Repeat, While, Write, argument_items, fresh, functions, items, stmt_items}
 use Rattle.rely_kernel.specs.Text.{Stmt, block_of, expr_of, exprs_of, stmt_of}
 use Rattle.rely_kernel.specs.Running.{Fine, pushed}
 use Rattle.rely_kernel.proofs.TextLemmas.{text-If, text-While, text-Repeat}
-use Rattle.rely_machine.specs.Going.{Exceeds, Runs, with_entry}
+use Rattle.rely_machine.specs.Going.{Exceeds, Runs, with_entry, with_steps}
 use Rattle.rely_machine.specs.Idle.{first_of, second_of, table_of}
 use Rattle.rely_machine.proofs.Calling.{arity, callee_fine, callee_running, callee_table, callee_valid, call_goes, call_known, call_kept, call_label, call_smaller, call_stops_body, call_stops_enter, call_stops_write, called_known}
-use Rattle.rely_machine.proofs.Idling.{Walks, walk_end, walk_goes, walk_next, walk_start, walk_stops}
+use Rattle.rely_machine.proofs.Idling.{Walks, idle_exceeds, idle_runs_all, walk_end, walk_goes, walk_next, walk_start, walk_stops}
 use Rattle.rely_machine.proofs.Listing.{fine_at}
-use Rattle.rely_machine.proofs.Looping.{if_goes, if_stops, if_stops_first, leads_start, picks_no, picks_yes, round_ends, round_goes, round_stops, round_stops_first, round_stops_then, rounds_end, steps_running, turn_goes, turn_stops, turn_stops_then, turns_end}
+use Rattle.rely_machine.proofs.Looping.{if_goes, if_stops, if_stops_first, leads_first, leads_start, picks_no, picks_yes, round_ends, round_goes, round_stops, round_stops_first, round_stops_then, rounds_end, steps_running, turn_goes, turn_stops, turn_stops_then, turns_end}
 use Rattle.rely_machine.proofs.Reading.{scalar_long, steps_from, zero_in, zero_of}
 use Rattle.rely_machine.proofs.Sizes.{block_size, stmt_size, stmt_smaller}
-use Rattle.rely_machine.proofs.Tables.{has_table, place_below, place_read}
+use Rattle.rely_machine.proofs.Tables.{has_table, idle_left, place_below, place_read}
 use Rattle.rely_machine.proofs.Walking.{exceeds_first}
 use Rattle.rely_machine.proofs.walk.+text.Goals as goal
 
@@ -167,11 +168,19 @@ rounds-loop-preserved t c = round_goes c.args.r.now (λ is. While (expr_of c.arg
 pub rounds-returns-clause-runs : goal.rounds-returns-clause-runs
 rounds-returns-clause-runs t c = rounds_end c.args.r.now (λ is. While (expr_of c.args.e.now) c.args.n (block_of c.args.text.statements.now) ∷ is) (expr_of c.args.e.now) (block_of c.args.text.statements.now) c.args.held.now c.loop.held c.args.tally.now c.loop.tally (c.args.n - c.loop.counter) (omega (arith, c.loop-test.false)) c.loop.invariant
 
+pub turns-returns-then-is_empty-clause-runs : goal.turns-returns-then-is_empty-clause-runs
+turns-returns-then-is_empty-clause-runs t c = on_ok_weaker c.walk.result (λ e. idle_runs_all c.args.r.now (block_of c.args.text.statements.now) (idle_left c.args.text.statements.now 0 (ap length (sym c.requires.table.live) ∙ eqb-true (length c.args.text.live.now) 0 (sym c.if-is_empty.ensures))) (λ is. Repeat c.args.n (block_of c.args.text.statements.now) ∷ is) c.args.held.now c.args.tally.now c.args.n c.args.tally.now c.walk.new.self (e ∙ ap (λ n. with_steps c.args.tally.now n) c.from.ensures) (leads_first c.args.r.now (λ is. Repeat c.args.n (block_of c.args.text.statements.now) ∷ is) c.args.held.now c.args.tally.now c.requires.running)) c.walk.ensures.ok
+
+pub turns-returns-then-is_empty-clause-exceeds : goal.turns-returns-then-is_empty-clause-exceeds
+turns-returns-then-is_empty-clause-exceeds t c = λ is.
+    let over = c.walk.ensures.steps is in
+    idle_exceeds c.args.r.now (block_of c.args.text.statements.now) (idle_left c.args.text.statements.now 0 (ap length (sym c.requires.table.live) ∙ eqb-true (length c.args.text.live.now) 0 (sym c.if-is_empty.ensures))) (λ is. Repeat c.args.n (block_of c.args.text.statements.now) ∷ is) c.args.held.now c.args.tally.now c.args.n c.args.tally.now refl (omega (arith, over, c.from.ensures)) (leads_first c.args.r.now (λ is. Repeat c.args.n (block_of c.args.text.statements.now) ∷ is) c.args.held.now c.args.tally.now c.requires.running)
+
 pub turns-loop-init : goal.turns-loop-init
 turns-loop-init t c = leads_start c.args.r.now (λ n is. Repeat n (block_of c.args.text.statements.now) ∷ is) c.args.n (c.args.n - 0) (omega arith) c.args.held.now c.args.tally.now c.requires.running
 
 pub turns-returns-in_err-walk-clause-exceeds : goal.turns-returns-in_err-walk-clause-exceeds
-turns-returns-in_err-walk-clause-exceeds t c = λ is. turn_stops c.args.r.now (λ is. Repeat c.args.n (block_of c.args.text.statements.now) ∷ is) (block_of c.args.text.statements.now) c.args.held.now c.loop.held c.args.tally.now c.loop.tally (c.args.n - c.loop.counter) (c.args.n - (c.loop.counter + 1)) (omega (arith, c.loop-test.true)) c.loop.invariant (c.walk.ensures.steps (steps_from c.walk.result c.from_residual.result c.in_err-walk.field-0.0 c.from_residual.ensures.1 c.in_err-walk.was is))
+turns-returns-in_err-walk-clause-exceeds t c = λ is. turn_stops c.args.r.now (λ is. Repeat c.args.n (block_of c.args.text.statements.now) ∷ is) (block_of c.args.text.statements.now) c.args.held.now c.loop.held c.args.tally.now c.loop.tally (c.args.n - c.loop.counter) (c.args.n - (c.loop.counter + 1)) (omega (arith, c.loop-test.true)) c.loop.invariant (c.walk-in-loop.ensures.steps (steps_from c.walk-in-loop.result c.from_residual.result c.in_err-walk.field-0.0 c.from_residual.ensures.1 c.in_err-walk.was is))
 
 pub turns-block-requires : goal.turns-block-requires
 turns-block-requires t c = let d = c.decreases in (omega (arith, d), (rw c.in_ok-walk.ensures.ok (steps_running c.args.r.now c.loop.held c.loop.tally 1 c.loop.invariant.running), (c.requires.fits, c.requires.table)))
