@@ -19,14 +19,6 @@ module _ (r : Running) where
   pub leads_first : (a : List Item → List Item) (u : Point) → IsRunning r u.store → Leads r a a u u
   leads_first a u h = record { running = h; limit = refl; goes = λ x more st stands. stands }
 
-  -- the same items, written otherwise
-  pub leads_same : {a b d : List Item → List Item} {u v : Point} → ((more : List Item) → b more ≡ d more) → Leads r a b u v → Leads r a d u v
-  leads_same {a} {b} {d} {u} {v} e y = record {
-    running = y.running;
-    limit = y.limit;
-    goes = λ x more st stands. subst (λ is. Stands r x (standing is st v.store) v) (e more) (y.goes x more st stands);
-  }
-
   pub leads_start : (f : ℕ → List Item → List Item) (n m : ℕ) → n ≡ m → (u : Point) → IsRunning r u.store → Leads r (f n) (f m) u u
   leads_start f n m e u h = subst (λ k. Leads r (f n) (f k) u u) e (leads_first (f n) u h)
 

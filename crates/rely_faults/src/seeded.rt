@@ -6,7 +6,7 @@ ghost use Rattle.rely_kernel.specs.Valid.{IsValid};
 ghost use Rattle.rely_faults.specs.Going.{outcome_of, setup_of};
 ghost use Rattle.rely_faults.specs.Setup.{HasTrials, Stops, Tries};
 ghost use Rattle.rely_faults.specs.Trial.{IsTried, LeavesWords, PassesLimit, StopsAt};
-ghost use Rattle.rely_machine.specs.Idle.{body_table};
+ghost use Rattle.rely_machine.specs.Table.{body_table, entries};
 ghost use Rattle.rely_machine.specs.declared.fault.RunFault.TheVariants as fault;
 
 use crate::Tried;
@@ -71,7 +71,7 @@ pub(crate) fn finish(
     words: &mut Lcg128Xsl64,
 ) -> Result<Tally, RunFault>
     requires setup { HasTrials (setup_of r.now) }
-    requires table { live.now ≡ body_table r.now.kernel.now }
+    requires table { entries live.now ≡ body_table r.now.kernel.now }
     requires start { IsStart r.now.kernel.now held.old }
     requires limit { limit ≤ 2 ^ 63 }
     ensures ok { IfOk result (λ t. Tries (setup_of r.now) held.old words.old (outcome_of held.new t) words.new) }

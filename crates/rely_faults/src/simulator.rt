@@ -17,7 +17,7 @@ use std::marker::Model;
 #[derive(Debug, Drop)]
 pub struct Simulator<'k> {
     running: Running<'k>,
-    live: Vec<Live>,
+    live: Vec<Live<'k>>,
     held: Held,
 }
 
@@ -25,7 +25,7 @@ impl<'k> Model for Simulator<'k> {
     ghost use Rattle.std.specs.Prelude.{◌≡◌};
     ghost use Rattle.std.specs.Coded.{codes};
     ghost use Rattle.rely_kernel.specs.contracts.kernel.StKind as statements;
-    ghost use Rattle.rely_machine.specs.Idle.{body_table};
+    ghost use Rattle.rely_machine.specs.Table.{body_table, entries};
     ghost use Rattle.rely_faults.specs.Setup.{Setup};
 
     ghost Value = { Setup };
@@ -34,7 +34,7 @@ impl<'k> Model for Simulator<'k> {
 
     ghost view = { λ s. record { kernel = s.running.kernel.now; hardware = s.running.hardware.now; setting = s.running.setting.now } };
 
-    ghost invariant = { λ s. s.live.items ≡ body_table s.running.kernel.now };
+    ghost invariant = { λ s. entries s.live.items ≡ body_table s.running.kernel.now };
 }
 
 impl<'k> Simulator<'k> {

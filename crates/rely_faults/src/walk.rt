@@ -3,7 +3,7 @@ ghost use Rattle.rely_kernel.specs.Machine.{expr_items, items, stmt_items};
 ghost use Rattle.rely_kernel.specs.Text.{Stmt, block_of, expr_of, stmt_of};
 ghost use Rattle.rely_kernel.specs.Valid.{ExprFits};
 ghost use Rattle.rely_kernel.specs.Running.{AllFine, Fine};
-ghost use Rattle.rely_machine.specs.Idle.{HasTable, HasTables};
+ghost use Rattle.rely_machine.specs.Table.{HasTable, HasTables};
 ghost use Rattle.rely_faults.specs.Going.{Exceeds, IsRunning, Runs, here};
 
 use crate::running::Running;
@@ -99,7 +99,7 @@ fn give(
     Ok(())
 }
 
-/// What a text does to the store. Idle statements are passed over.
+/// What a text does to the store. Only the statements of its table are met.
 #[cycle(text)]
 pub fn block(
     r: &Running,
@@ -114,18 +114,18 @@ pub fn block(
     ensures runs { OnOk result (Runs r.now (items (block_of text.entry.statements.now)) (λ st. st) (λ st. st) (here held.old tally.old words.old) (here held.new tally.new words.new)) }
     ensures exceeds { OnErr result (Exceeds r.now (items (block_of text.entry.statements.now)) (λ st. st) (here held.old tally.old words.old) words.new) }
 {
-    let mut live = text.live;
-    while let Some((entry, inner)) = live.split_first() {
-        let (first, rest) = inner.split_at(entry.first);
-        let (second, behind) = rest.split_at(entry.second);
-        let what = &text.statements[entry.place].what;
+    let mut at = 0;
+    while at < text.live.len() {
+        let entry = text.live[at];
+        let second = at + 1 + entry.first;
+        let behind = second + entry.second;
         let part = Part {
-            what,
-            first,
-            second,
+            what: entry.what,
+            first: &text.live[at + 1..second],
+            second: &text.live[second..behind],
         };
         statement(r, part, held, tally, words)?;
-        live = behind;
+        at = behind;
     }
     Ok(())
 }

@@ -1,6 +1,6 @@
 -- What a call takes.
 use Rattle.std.proofs.Common.{◌≡◌, ◌≢◌, ℕ, zero, suc, ◌+◌, ◌<◌, ◌≤◌, ℤ, List, [], ◌∷◌, length, map, get_or, Some, inl, inr, refl, sym, ap, subst, ◌∙◌, arith}
-use Rattle.std.specs.Prelude.{slice_get, slice_set, option_and_then, is_none, IsTrue, ◌⊎◌}
+use Rattle.std.specs.Prelude.{option_map, slice_get, slice_set, option_and_then, is_none, IsTrue, ◌⊎◌}
 use Rattle.std.specs.List.{AllByRecursion}
 use Rattle.std.proofs.lemmas.List.{length-append}
 use Rattle.rely_kernel.specs.declared.kernel.Kernel.{Kernel}
@@ -18,7 +18,7 @@ use Rattle.rely_kernel.proofs.Callees.{call_right, place_arity, fine}
 use Rattle.rely_kernel.proofs.Shape.{fresh_shape, shape_put, scalar_below}
 use Rattle.rely_machine.specs.declared.function.Function.{Function}
 use Rattle.rely_machine.specs.Going.{Counts, HasRows, IsRunning, Runs, Exceeds, Stands, Takes, standing, one_more, with_use, with_entry}
-use Rattle.rely_machine.specs.Idle.{body_table}
+use Rattle.rely_machine.specs.Table.{body_table, entries}
 use Rattle.rely_machine.proofs.Reading.{found_map}
 use Rattle.rely_machine.proofs.Sizes.{before, block_size, body_before}
 use Rattle.rely_machine.proofs.Steps.{chance, entering, free, too_many, found_below}
@@ -84,10 +84,10 @@ module _ (r : Function) (s : Store) (t : Counts) (v place : ℕ) (es : List Expr
   pub callee_linked : IsLinked q.linked.now
   callee_linked = subst IsLinked (sym same) linked
 
-  pub callee_tables : r.tables.now ≡ map body_table (functions r.linked.now) → q.tables.now ≡ map body_table (functions q.linked.now)
-  callee_tables are = same_tables ∙ (are ∙ ap (λ (l : Linked). map body_table (functions l)) (sym same))
+  pub callee_tables : map entries r.tables.now ≡ map body_table (functions r.linked.now) → map entries q.tables.now ≡ map body_table (functions q.linked.now)
+  callee_tables are = ap (map entries) same_tables ∙ (are ∙ ap (λ (l : Linked). map body_table (functions l)) (sym same))
 
-  pub callee_table : r.tables.now ≡ map body_table (functions r.linked.now) → slice_get q.tables.now q.at ≡ Some (body_table q.kernel.now)
+  pub callee_table : map entries r.tables.now ≡ map body_table (functions r.linked.now) → option_map entries (slice_get q.tables.now q.at) ≡ Some (body_table q.kernel.now)
   callee_table are = table_known q (callee_tables are) callee_known
 
   pub callee_fine : AllFine (functions q.linked.now) q.at q.kernel.now (block_of q.kernel.now.body)

@@ -1,6 +1,6 @@
 -- How a run begins and ends, and that its outcome is determined.
 use Rattle.std.proofs.Common.{◌≡◌, ℕ, zero, suc, ◌+◌, ◌<◌, ◌≤◌, List, [], ◌∷◌, ◌++◌, length, map, replicate, get_or, Option, Some, refl, sym, ap, subst, ◌∙◌, arith}
-use Rattle.std.specs.Prelude.{slice_get}
+use Rattle.std.specs.Prelude.{option_map, slice_get}
 use Rattle.std.proofs.lemmas.List.Sums.{sum_by-cons}
 use Rattle.std.specs.List.{All, range_with_len}
 use Rattle.std.specs.Option.{option_map_or}
@@ -21,7 +21,7 @@ use Rattle.rely_machine.specs.declared.function.Function.{Function}
 use Rattle.rely_machine.specs.declared.outcome.Outcome.{Outcome}
 use Rattle.rely_machine.specs.Going.{Counts, Exceeds, IsRunning, Runs, Stands, Takes, standing}
 use Rattle.rely_machine.specs.Run.{IsOutcome, IsRun, ReachesLimit, entered, first, taken, uses, uses_at}
-use Rattle.rely_machine.specs.Idle.{body_table}
+use Rattle.rely_machine.specs.Table.{body_table, entries}
 use Rattle.rely_machine.proofs.Reading.{found_last}
 use Rattle.rely_machine.proofs.Tables.{table_known}
 
@@ -174,13 +174,13 @@ module _ (l : Linked) (start : Store) (linked : IsLinked l) (begins : IsStart l.
   pub main_fine : AllFine (functions r.linked.now) r.at r.kernel.now (block_of r.kernel.now.body)
   main_fine = fine (functions r.linked.now) (subst IsLinked (sym same) linked) r.at r.kernel.now known
 
-  main_tables : r.tables.now ≡ map body_table (functions l) → r.tables.now ≡ map body_table (functions r.linked.now)
+  main_tables : map entries r.tables.now ≡ map body_table (functions l) → map entries r.tables.now ≡ map body_table (functions r.linked.now)
   main_tables are = are ∙ ap (λ (k : Linked). map body_table (functions k)) (sym same)
 
-  pub main_table : r.tables.now ≡ map body_table (functions l) → slice_get r.tables.now r.at ≡ Some (body_table r.kernel.now)
+  pub main_table : map entries r.tables.now ≡ map body_table (functions l) → option_map entries (slice_get r.tables.now r.at) ≡ Some (body_table r.kernel.now)
   main_table are = table_known r (main_tables are) known
 
-  pub main_running : r.tables.now ≡ map body_table (functions l) → (t : Counts) → t ≡ no_counts l limit → IsRunning r start t
+  pub main_running : map entries r.tables.now ≡ map body_table (functions l) → (t : Counts) → t ≡ no_counts l limit → IsRunning r start t
   main_running are t e = rw e (record {
     linked = subst IsLinked (sym same) linked;
     known = known;

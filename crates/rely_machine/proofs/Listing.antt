@@ -4,12 +4,11 @@ use Rattle.std.specs.Prelude.{slice_get}
 use Rattle.std.proofs.lemmas.List.{length-append}
 use Rattle.rely_kernel.specs.declared.kernel.Ex.{Ex}
 use Rattle.rely_kernel.specs.declared.kernel.Kernel.{Kernel}
-use Rattle.rely_kernel.specs.declared.kernel.St.{St}
 use Rattle.rely_kernel.specs.declared.setting.Store.{Store}
-use Rattle.rely_kernel.specs.Machine.{Item, argument_items, expr_items, items, stmt_items}
-use Rattle.rely_kernel.specs.Text.{block_of, expr_of, exprs_of, stmt_of}
+use Rattle.rely_kernel.specs.Machine.{Item, argument_items, expr_items}
+use Rattle.rely_kernel.specs.Text.{expr_of, exprs_of}
 use Rattle.rely_kernel.specs.Valid.{AllFit, ExprFits}
-use Rattle.rely_kernel.specs.Running.{All-fit, AllFine, Fine, pushed}
+use Rattle.rely_kernel.specs.Running.{All-fit, pushed}
 use Rattle.rely_kernel.proofs.Numbers.{Fits}
 use Rattle.rely_machine.specs.declared.function.Function.{Function}
 use Rattle.rely_machine.specs.Going.{Counts, Runs, Exceeds, Stands, standing}
@@ -83,16 +82,3 @@ module _ (r : Function) (s : Store) (t0 t : Counts) (es : List Ex) (i : ℕ) (e 
 pub exprs_long : (es : List Ex) → length (exprs_of es) ≡ length es
 exprs_long [] = refl
 exprs_long (e ∷ es) = ap suc (exprs_long es)
-
--- ---- statements
-
-pub stmts_at : (ss : List St) (i : ℕ) (s : St) → slice_get ss i ≡ Some s → (more : List Item)
-    → items (block_of (take i ss)) (stmt_items (stmt_of s.what) (items (block_of (drop (suc i) ss)) more)) ≡ items (block_of ss) more
-stmts_at [] i s is more = absurd (cc)
-stmts_at (x ∷ ss) zero s is more = ap (λ y. stmt_items (stmt_of y) (items (block_of ss) more)) (ap (λ (u : St). u.what) (sym (some_is is)))
-stmts_at (x ∷ ss) (suc i) s is more = ap (stmt_items (stmt_of x.what)) (stmts_at ss i s is more)
-
-pub fine_at : (fs : List Kernel) (f : ℕ) (k : Kernel) (ss : List St) (i : ℕ) (s : St) → slice_get ss i ≡ Some s → AllFine fs f k (block_of ss) → Fine fs f k (stmt_of s.what)
-fine_at fs f k [] i s is h = absurd (cc)
-fine_at fs f k (x ∷ ss) zero s is h = subst (λ (y : St). Fine fs f k (stmt_of y.what)) (some_is is) h.0
-fine_at fs f k (x ∷ ss) (suc i) s is h = fine_at fs f k ss i s is h.1

@@ -19,14 +19,6 @@ module _ (r : Function) where
   pub leads_first : (a : List Item → List Item) (s : Store) (t : Counts) → IsRunning r s t → Leads r a a s t s t
   leads_first a s t h = record { running = h; keeps = keeps_all r.at t; goes = λ c more st fr stands. stands }
 
-  -- the same items, written otherwise
-  pub leads_same : {a b d : List Item → List Item} {s t s' t' : _} → ((more : List Item) → b more ≡ d more) → Leads r a b s t s' t' → Leads r a d s t s' t'
-  leads_same {a} {b} {d} {s} {t} {s'} {t'} e x = record {
-    running = x.running;
-    keeps = x.keeps;
-    goes = λ c more st fr stands. subst (λ is. Stands r.linked.now c (standing r is st s' fr) t') (e more) (x.goes c more st fr stands);
-  }
-
   pub leads_start : (f : ℕ → List Item → List Item) (n m : ℕ) → n ≡ m → (s : Store) (t : Counts) → IsRunning r s t → Leads r (f n) (f m) s t s t
   leads_start f n m e s t h = subst (λ k. Leads r (f n) (f k) s t s t) e (leads_first (f n) s t h)
 

@@ -8,7 +8,7 @@ use Rattle.rely_kernel.specs.Labels.{labels_of}
 use Rattle.rely_kernel.specs.Valid.{IsLinked, PlaceFits}
 use Rattle.rely_kernel.specs.Machine.{Config, Frame, Item, functions, after, passed, trace, steps}
 use Rattle.rely_machine.specs.declared.function.Function.{Function}
-use Rattle.rely_machine.specs.Idle.{body_table}
+use Rattle.rely_machine.specs.Table.{body_table, entries}
 use Rattle.rely_machine.specs.Run.{uses_at, entered}
 
 -- ---- counts
@@ -63,7 +63,7 @@ pub record Takes (l : Linked) (c : Config) (limit : ℕ) : Type 0 where
 pub record IsRunning (r : Function) (s : Store) (t : Counts) : Type 0 where
   pub linked : IsLinked r.linked.now
   pub known : slice_get (functions r.linked.now) r.at ≡ Some r.kernel.now
-  pub tables : r.tables.now ≡ map body_table (functions r.linked.now)
+  pub tables : map entries r.tables.now ≡ map body_table (functions r.linked.now)
   pub shape : HasShape r.kernel.now s
   pub rows : HasRows r.linked.now t
   pub entries : (g : ℕ) → g < r.at → get_or t.entries g 0 ≤ t.steps

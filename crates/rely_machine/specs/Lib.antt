@@ -1,7 +1,7 @@
 pub mod Cost
 pub mod EnergySums
 pub mod Going
-pub mod Idle
 pub mod Laws
 pub mod Run
 pub mod Starts
+pub mod Table

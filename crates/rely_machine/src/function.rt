@@ -3,7 +3,7 @@ ghost use Rattle.rely_kernel.specs.Labels.{number};
 ghost use Rattle.rely_kernel.specs.Machine.{callee, functions, main, numbers_in};
 ghost use Rattle.rely_kernel.specs.Valid.{IsValid};
 ghost use Rattle.rely_machine.specs.Going.{IsPlace};
-ghost use Rattle.rely_machine.specs.Idle.{body_table};
+ghost use Rattle.rely_machine.specs.Table.{body_table, entries};
 ghost use Rattle.rely_kernel.specs.declared.label.Label.TheVariants as label;
 
 use crate::live::{Live, Text, live_statements};
@@ -11,15 +11,15 @@ use rely_kernel::{Kernel, Linked, Var};
 use rely_num::{List, Op};
 use std::alloc::{AllocError, Global};
 
-fn table(alloc: Global, k: &Kernel) -> Result<List<Live>, AllocError>
-    ensures { IfOk result (λ table. table ≡ body_table k.now) }
+fn table<'k>(alloc: Global, k: &'k Kernel) -> Result<List<Live<'k>>, AllocError>
+    ensures { IfOk result (λ table. entries table ≡ body_table k.now) }
 {
     Ok(List::from_vec(live_statements(alloc, k.body.as_slice())?))
 }
 
 /// The tables of the bodies of a linked list, in its order.
-pub fn tables(alloc: Global, linked: &Linked) -> Result<Vec<List<Live>>, AllocError>
-    ensures { IfOk result (λ tables. tables.items ≡ map body_table (functions linked.now)) }
+pub fn tables<'k>(alloc: Global, linked: &'k Linked) -> Result<Vec<List<Live<'k>>>, AllocError>
+    ensures { IfOk result (λ tables. map entries tables.items ≡ map body_table (functions linked.now)) }
 {
     let mut tables = Vec::new(alloc);
     for k in linked.inner.as_slice() {
@@ -31,15 +31,15 @@ pub fn tables(alloc: Global, linked: &Linked) -> Result<Vec<List<Live>>, AllocEr
 
 /// A function of a linked list, by its place there: the last is the kernel, and those before it are reached.
 #[derive(Clone, Copy, Debug)]
-pub struct Function<'l> {
-    linked: &'l Linked,
-    tables: &'l [List<Live>],
+pub struct Function<'k, 't> {
+    linked: &'k Linked,
+    tables: &'t [List<Live<'k>>],
     at: usize,
-    kernel: &'l Kernel,
+    kernel: &'k Kernel,
 }
 
-impl<'l> Function<'l> {
-    pub fn main(linked: &'l Linked, tables: &'l [List<Live>]) -> Function<'l>
+impl<'k, 't> Function<'k, 't> {
+    pub fn main(linked: &'k Linked, tables: &'t [List<Live<'k>>]) -> Function<'k, 't>
         ensures linked { result.linked.now ≡ linked.now }
         ensures tables { result.tables.now ≡ tables.now }
         ensures at { result.at ≡ main linked.now }
@@ -59,10 +59,10 @@ impl<'l> Function<'l> {
         self.at
     }
 
-    pub fn body(&self) -> Text<'l>
-        requires { slice_get self.now.tables.now self.now.at ≡ Some (body_table self.now.kernel.now) }
+    pub fn body(&self) -> Text<'k, 't>
+        requires { option_map entries (slice_get self.now.tables.now self.now.at) ≡ Some (body_table self.now.kernel.now) }
         ensures statements { result.statements.now ≡ self.now.kernel.now.body }
-        ensures live { result.live.now ≡ body_table self.now.kernel.now }
+        ensures live { entries result.live.now ≡ body_table self.now.kernel.now }
     {
         Text {
             statements: self.kernel.body.as_slice(),
@@ -110,7 +110,7 @@ impl<'l> Function<'l> {
     }
 
     /// The function that a place calls.
-    pub fn callee(&self, place: u32) -> Function<'l>
+    pub fn callee(&self, place: u32) -> Function<'k, 't>
         requires known { slice_get (functions self.now.linked.now) self.now.at ≡ Some self.now.kernel.now }
         requires place { IsPlace self.now place }
         ensures linked { result.linked.now ≡ self.now.linked.now }

@@ -4,7 +4,7 @@ ghost use Rattle.rely_kernel.specs.Text.{Stmt, block_of, expr_of, exprs_of, stmt
 ghost use Rattle.rely_kernel.specs.Valid.{AllFit, ExprFits};
 ghost use Rattle.rely_kernel.specs.Running.{All-fit, AllFine, Fine, pushed};
 ghost use Rattle.rely_machine.specs.Going.{Exceeds, IsRunning, Runs};
-ghost use Rattle.rely_machine.specs.Idle.{HasTable, HasTables};
+ghost use Rattle.rely_machine.specs.Table.{HasTable, HasTables};
 ghost use Rattle.rely_machine.specs.declared.fault.RunFault.TheVariants as fault;
 
 use crate::RunFault;
@@ -106,7 +106,7 @@ fn give(r: &Function, e: &Ex, held: &mut Held, tally: &mut Tally) -> Result<(), 
     Ok(())
 }
 
-/// What a text does to the store. Idle statements are passed over.
+/// What a text does to the store. Only the statements of its table are met.
 #[cycle(text)]
 pub fn block(r: &Function, text: Text, held: &mut Held, tally: &mut Tally) -> Result<(), RunFault>
     requires running { IsRunning r.now held.old tally.old }
@@ -115,18 +115,18 @@ pub fn block(r: &Function, text: Text, held: &mut Held, tally: &mut Tally) -> Re
     ensures runs { OnOk result (Runs r.now (items (block_of text.entry.statements.now)) (λ st. st) (λ st. st) held.old tally.old held.new tally.new) }
     ensures exceeds { result ≡ Err fault.Steps → Exceeds r.now (items (block_of text.entry.statements.now)) (λ st. st) held.old tally.old }
 {
-    let mut live = text.live;
-    while let Some((entry, inner)) = live.split_first() {
-        let (first, rest) = inner.split_at(entry.first);
-        let (second, behind) = rest.split_at(entry.second);
-        let what = &text.statements[entry.place].what;
+    let mut at = 0;
+    while at < text.live.len() {
+        let entry = text.live[at];
+        let second = at + 1 + entry.first;
+        let behind = second + entry.second;
         let part = Part {
-            what,
-            first,
-            second,
+            what: entry.what,
+            first: &text.live[at + 1..second],
+            second: &text.live[second..behind],
         };
         statement(r, part, held, tally)?;
-        live = behind;
+        at = behind;
     }
     Ok(())
 }

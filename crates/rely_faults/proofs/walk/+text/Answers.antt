@@ -1,79 +1,59 @@
-use Rattle.std.proofs.Common.{rules, ◌+◌, ◌-◌, ◌≤◌, [], ◌∷◌, length, take, drop, OnErr, OnOk, sym, ap, subst, ◌∙◌, arith}
+use Rattle.std.proofs.Common.{rules, ◌+◌, ◌-◌, [], ◌∷◌, OnErr, OnOk, refl, sym, ap, subst, ◌∙◌, arith}
 use Rattle.std.proofs.lemmas.Result.{on_err_weaker, on_ok_weaker}
-use Rattle.rely_kernel.specs.declared.kernel.St.{St}
 use Rattle.rely_kernel.specs.Machine.{Repeat, While, stmt_items}
 use Rattle.rely_kernel.specs.Text.{Stmt, block_of, expr_of, stmt_of}
 use Rattle.rely_kernel.specs.Running.{Fine}
 use Rattle.rely_kernel.proofs.TextLemmas.{text-If, text-While, text-Repeat}
-use Rattle.rely_machine.specs.Idle.{first_of, second_of, table_of}
-use Rattle.rely_machine.proofs.Listing.{fine_at}
+use Rattle.rely_machine.specs.Table.{first_of, second_of, table_of}
 use Rattle.rely_machine.proofs.Reading.{zero_in, zero_of}
-use Rattle.rely_machine.proofs.Sizes.{block_size, stmt_size, stmt_smaller}
-use Rattle.rely_machine.proofs.Tables.{place_below, place_read}
+use Rattle.rely_machine.proofs.Sizes.{block_size, stmt_size}
+use Rattle.rely_machine.proofs.Tables.{first_at, fits_at, second_at, smaller_at, within_at}
 use Rattle.rely_faults.specs.Going.{Exceeds, Runs, here}
-use Rattle.rely_faults.proofs.Idling.{Walks, walk_end, walk_goes, walk_next, walk_start, walk_stops}
+use Rattle.rely_faults.proofs.Idling.{walk_end, walk_goes, walk_start, walk_stops}
 use Rattle.rely_faults.proofs.Looping.{if_goes, if_stops, if_stops_first, leads_start, picks_no, picks_yes, round_ends, round_goes, round_stops, round_stops_first, round_stops_then, rounds_end, turn_goes, turn_stops, turn_stops_then, turns_end}
 use Rattle.rely_faults.proofs.Walking.{on_err}
 use Rattle.rely_faults.proofs.walk.+text.Goals as goal
 
-pub block-loop-entry-init : goal.block-loop-entry-init
-block-loop-entry-init t c = walk_start c.args.r.now c.args.text.statements.now (here c.args.held.now c.args.tally.now c.args.words.now) c.args.text.live.now c.requires.table.live c.requires.running
+pub block-loop-at-init : goal.block-loop-at-init
+block-loop-at-init t c = walk_start c.args.r.now (block_of c.args.text.statements.now) c.args.text.live.now (here c.args.held.now c.args.tally.now c.args.words.now) c.requires.table.live c.requires.running
 
-pub block-split_at-requires : goal.block-split_at-requires
-block-split_at-requires t c = (walk_next c.args.r.now c.args.text.statements.now (here c.args.held.now c.args.tally.now c.args.words.now) (here c.loop-entry.held c.loop-entry.tally c.loop-entry.words) c.loop-entry.live.now c.in-Some.entry.now c.in-Some.inner.now c.in-Some.ensures.cases.0 c.loop-entry.invariant).first_many
+pub block-overflow_add-second-in-loop-at : goal.block-overflow_add-second-in-loop-at
+block-overflow_add-second-in-loop-at t c = let h = within_at (block_of c.args.text.statements.now) c.args.text.live.now c.loop-at.at c.index-text-at.result (omega arith) c.loop-at.invariant.left in search (rules, h)
 
-pub block-split_at-requires-in-Some : goal.block-split_at-requires-in-Some
-block-split_at-requires-in-Some t c = subst (λ xs. c.in-Some.entry.now.second ≤ length xs) (sym c.split_at.ensures.back) (walk_next c.args.r.now c.args.text.statements.now (here c.args.held.now c.args.tally.now c.args.words.now) (here c.loop-entry.held c.loop-entry.tally c.loop-entry.words) c.loop-entry.live.now c.in-Some.entry.now c.in-Some.inner.now c.in-Some.ensures.cases.0 c.loop-entry.invariant).second_many
+pub block-overflow_add-behind : goal.block-overflow_add-behind
+block-overflow_add-behind t c = let h = within_at (block_of c.args.text.statements.now) c.args.text.live.now c.loop-at.at c.index-text-at.result (omega arith) c.loop-at.invariant.left in search (rules, h)
 
-pub block-offset_bounds-text-entry : goal.block-offset_bounds-text-entry
-block-offset_bounds-text-entry t c =
-    let n = walk_next c.args.r.now c.args.text.statements.now (here c.args.held.now c.args.tally.now c.args.words.now) (here c.loop-entry.held c.loop-entry.tally c.loop-entry.words) c.loop-entry.live.now c.in-Some.entry.now c.in-Some.inner.now c.in-Some.ensures.cases.0 c.loop-entry.invariant in
-    let below = place_below c.args.text.statements.now c.in-Some.entry.now.place n.s n.at in
-    search (rules, below)
+pub block-slice_bounds-part-end : goal.block-slice_bounds-part-end
+block-slice_bounds-part-end t c = let h = within_at (block_of c.args.text.statements.now) c.args.text.live.now c.loop-at.at c.index-text-at.result (omega arith) c.loop-at.invariant.left in search (rules, h)
 
-pub block-bounds-text-entry : goal.block-bounds-text-entry
-block-bounds-text-entry t c =
-    let n = walk_next c.args.r.now c.args.text.statements.now (here c.args.held.now c.args.tally.now c.args.words.now) (here c.loop-entry.held c.loop-entry.tally c.loop-entry.words) c.loop-entry.live.now c.in-Some.entry.now c.in-Some.inner.now c.in-Some.ensures.cases.0 c.loop-entry.invariant in
-    place_below c.args.text.statements.now c.in-Some.entry.now.place n.s n.at
+pub block-slice_bounds-part-end-in-loop-at : goal.block-slice_bounds-part-end-in-loop-at
+block-slice_bounds-part-end-in-loop-at t c = let h = within_at (block_of c.args.text.statements.now) c.args.text.live.now c.loop-at.at c.index-text-at.result (omega arith) c.loop-at.invariant.left in search (rules, h)
 
 pub block-statement-requires : goal.block-statement-requires
 block-statement-requires t c =
-    let n = walk_next c.args.r.now c.args.text.statements.now (here c.args.held.now c.args.tally.now c.args.words.now) (here c.loop-entry.held c.loop-entry.tally c.loop-entry.words) c.loop-entry.live.now c.in-Some.entry.now c.in-Some.inner.now c.in-Some.ensures.cases.0 c.loop-entry.invariant in
-    let is = place_read c.args.text.statements.now c.in-Some.entry.now.place n.s c.index-text-entry.result n.at in
-    let smaller = stmt_smaller c.args.text.statements.now c.in-Some.entry.now.place n.s n.at in
-    let same = ap (λ (s : St). stmt_size (stmt_of s.what)) is in
+    let smaller = smaller_at (block_of c.args.text.statements.now) c.args.text.live.now c.loop-at.at c.index-text-at.result (omega arith) c.loop-at.invariant.left in
     let d = c.decreases in (
-      omega (arith, d, smaller, same),
+      omega (arith, d, smaller),
       (
-        c.loop-entry.invariant.leads.running,
+        c.loop-at.invariant.leads.running,
         (
-          rw is (fine_at (c.args.r.now.kernel.now ∷ []) 0 c.args.r.now.kernel.now c.args.text.statements.now c.in-Some.entry.now.place n.s n.at c.requires.fits),
+          fits_at (block_of c.args.text.statements.now) c.args.text.live.now c.loop-at.at c.index-text-at.result (omega arith) c.loop-at.invariant.left (c.args.r.now.kernel.now ∷ []) 0 c.args.r.now.kernel.now c.requires.fits,
           record {
-            first = c.split_at.ensures.front ∙ (n.first ∙ ap (λ (s : St). first_of (stmt_of s.what)) (sym is));
-            second = c.split_at-in-Some.ensures.front ∙ (ap (take c.in-Some.entry.now.second) c.split_at.ensures.back ∙ (n.second ∙ ap (λ (s : St). second_of (stmt_of s.what)) (sym is)));
+            first = first_at (block_of c.args.text.statements.now) c.args.text.live.now c.loop-at.at c.index-text-at.result (omega arith) c.loop-at.invariant.left (c.loop-at.at + 1) _ refl refl;
+            second = second_at (block_of c.args.text.statements.now) c.args.text.live.now c.loop-at.at c.index-text-at.result (omega arith) c.loop-at.invariant.left _ _ refl refl;
           },
         ),
       ),
     )
 
 pub block-returns-in_err-statement-clause-exceeds : goal.block-returns-in_err-statement-clause-exceeds
-block-returns-in_err-statement-clause-exceeds t c =
-    let n = walk_next c.args.r.now c.args.text.statements.now (here c.args.held.now c.args.tally.now c.args.words.now) (here c.loop-entry.held c.loop-entry.tally c.loop-entry.words) c.loop-entry.live.now c.in-Some.entry.now c.in-Some.inner.now c.in-Some.ensures.cases.0 c.loop-entry.invariant in
-    let read = place_read c.args.text.statements.now c.in-Some.entry.now.place n.s c.index-text-entry.result n.at in
-    on_err c.from_residual.result (walk_stops c.args.r.now c.args.text.statements.now (here c.args.held.now c.args.tally.now c.args.words.now) (here c.loop-entry.held c.loop-entry.tally c.loop-entry.words) c.loop-entry.live.now c.in-Some.entry.now c.in-Some.inner.now c.in-Some.ensures.cases.0 c.loop-entry.invariant
-    (subst (λ (s : St). Exceeds c.args.r.now (stmt_items (stmt_of s.what)) (λ st. st) (here c.loop-entry.held c.loop-entry.tally c.loop-entry.words) c.statement.new.words) read c.in_err-statement.ensures.exceeds))
+block-returns-in_err-statement-clause-exceeds t c = on_err c.from_residual.result (walk_stops c.args.r.now (block_of c.args.text.statements.now) c.args.text.live.now (here c.args.held.now c.args.tally.now c.args.words.now) (here c.loop-at.held c.loop-at.tally c.loop-at.words) c.loop-at.at c.loop-at.invariant c.index-text-at.result (omega arith) c.in_err-statement.ensures.exceeds)
 
-pub block-loop-entry-preserved : goal.block-loop-entry-preserved
-block-loop-entry-preserved t c =
-    let n = walk_next c.args.r.now c.args.text.statements.now (here c.args.held.now c.args.tally.now c.args.words.now) (here c.loop-entry.held c.loop-entry.tally c.loop-entry.words) c.loop-entry.live.now c.in-Some.entry.now c.in-Some.inner.now c.in-Some.ensures.cases.0 c.loop-entry.invariant in
-    let read = place_read c.args.text.statements.now c.in-Some.entry.now.place n.s c.index-text-entry.result n.at in
-    subst (λ live. Walks c.args.r.now c.args.text.statements.now live (here c.args.held.now c.args.tally.now c.args.words.now) (here c.statement.new.held c.statement.new.tally c.statement.new.words))
-    (sym (c.split_at-in-Some.ensures.back ∙ ap (drop c.in-Some.entry.now.second) c.split_at.ensures.back))
-    (walk_goes c.args.r.now c.args.text.statements.now (here c.args.held.now c.args.tally.now c.args.words.now) (here c.loop-entry.held c.loop-entry.tally c.loop-entry.words) c.loop-entry.live.now c.in-Some.entry.now c.in-Some.inner.now c.in-Some.ensures.cases.0 c.loop-entry.invariant
-    (subst (λ (s : St). Runs c.args.r.now (stmt_items (stmt_of s.what)) (λ st. st) (λ st. st) (here c.loop-entry.held c.loop-entry.tally c.loop-entry.words) (here c.statement.new.held c.statement.new.tally c.statement.new.words)) read c.in_ok-statement.ensures.runs))
+pub block-loop-at-preserved : goal.block-loop-at-preserved
+block-loop-at-preserved t c = walk_goes c.args.r.now (block_of c.args.text.statements.now) c.args.text.live.now (here c.args.held.now c.args.tally.now c.args.words.now) (here c.loop-at.held c.loop-at.tally c.loop-at.words) c.loop-at.at c.loop-at.invariant c.index-text-at.result (omega arith) _ refl c.in_ok-statement.ensures.runs
 
 pub block-returns-clause-runs : goal.block-returns-clause-runs
-block-returns-clause-runs t c = walk_end c.args.r.now c.args.text.statements.now (here c.args.held.now c.args.tally.now c.args.words.now) (here c.loop-entry.held c.loop-entry.tally c.loop-entry.words) c.loop-entry.live.now c.in_default.ensures.cases c.loop-entry.invariant
+block-returns-clause-runs t c = walk_end c.args.r.now (block_of c.args.text.statements.now) c.args.text.live.now (here c.args.held.now c.args.tally.now c.args.words.now) (here c.loop-at.held c.loop-at.tally c.loop-at.words) c.loop-at.at c.loop-at.invariant (omega arith)
 
 pub choose-returns-in_err-z-clause-exceeds : goal.choose-returns-in_err-z-clause-exceeds
 choose-returns-in_err-z-clause-exceeds t c = on_err c.from_residual.result (if_stops_first c.args.r.now (expr_of c.args.e.now) (block_of c.args.s.statements.now) (block_of c.args.t.statements.now) (here c.args.held.now c.args.tally.now c.args.words.now) c.in_err-z.ensures.exceeds)

@@ -1,82 +1,62 @@
-use Rattle.std.proofs.Common.{rules, ◌+◌, ◌-◌, ◌≤◌, ◌∷◌, length, take, drop, OnOk, refl, sym, ap, subst, ◌∙◌, arith}
+use Rattle.std.proofs.Common.{rules, ◌+◌, ◌-◌, ◌∷◌, length, OnOk, refl, sym, ap, subst, ◌∙◌, arith}
 use Rattle.std.proofs.lemmas.Bool.{eqb-true}
 use Rattle.std.proofs.lemmas.Result.{on_ok_weaker}
-use Rattle.rely_kernel.specs.declared.kernel.St.{St}
 use Rattle.rely_kernel.specs.Machine.{Call, Repeat, While, Write, argument_items, fresh, functions, items, stmt_items}
 use Rattle.rely_kernel.specs.Text.{Stmt, block_of, expr_of, exprs_of, stmt_of}
 use Rattle.rely_kernel.specs.Running.{Fine, pushed}
 use Rattle.rely_kernel.proofs.TextLemmas.{text-If, text-While, text-Repeat}
 use Rattle.rely_machine.specs.Going.{Exceeds, Runs, with_entry, with_steps}
-use Rattle.rely_machine.specs.Idle.{first_of, second_of, table_of}
+use Rattle.rely_machine.specs.Table.{first_of, second_of, table_of}
 use Rattle.rely_machine.proofs.Calling.{arity, callee_fine, callee_running, callee_table, callee_valid, call_goes, call_known, call_kept, call_label, call_smaller, call_stops_body, call_stops_enter, call_stops_write, called_known}
-use Rattle.rely_machine.proofs.Idling.{Walks, idle_exceeds, idle_runs_all, walk_end, walk_goes, walk_next, walk_start, walk_stops}
-use Rattle.rely_machine.proofs.Listing.{fine_at}
+use Rattle.rely_machine.proofs.Idling.{idle_exceeds, idle_runs_all, walk_end, walk_goes, walk_start, walk_stops}
 use Rattle.rely_machine.proofs.Looping.{if_goes, if_stops, if_stops_first, leads_first, leads_start, picks_no, picks_yes, round_ends, round_goes, round_stops, round_stops_first, round_stops_then, rounds_end, steps_running, turn_goes, turn_stops, turn_stops_then, turns_end}
 use Rattle.rely_machine.proofs.Reading.{scalar_long, steps_from, zero_in, zero_of}
-use Rattle.rely_machine.proofs.Sizes.{block_size, stmt_size, stmt_smaller}
-use Rattle.rely_machine.proofs.Tables.{has_table, idle_left, place_below, place_read}
+use Rattle.rely_machine.proofs.Sizes.{block_size, stmt_size}
+use Rattle.rely_machine.proofs.Tables.{first_at, fits_at, has_table, second_at, smaller_at, text_passed, within_at}
 use Rattle.rely_machine.proofs.Walking.{exceeds_first}
 use Rattle.rely_machine.proofs.walk.+text.Goals as goal
 
-pub block-loop-entry-init : goal.block-loop-entry-init
-block-loop-entry-init t c = walk_start c.args.r.now c.args.text.statements.now c.args.held.now c.args.tally.now c.args.text.live.now c.requires.table.live c.requires.running
+pub block-loop-at-init : goal.block-loop-at-init
+block-loop-at-init t c = walk_start c.args.r.now (block_of c.args.text.statements.now) c.args.text.live.now c.args.held.now c.args.tally.now c.requires.table.live c.requires.running
 
-pub block-split_at-requires : goal.block-split_at-requires
-block-split_at-requires t c = (walk_next c.args.r.now c.args.text.statements.now c.args.held.now c.args.tally.now c.loop-entry.held c.loop-entry.tally c.loop-entry.live.now c.in-Some.entry.now c.in-Some.inner.now c.in-Some.ensures.cases.0 c.loop-entry.invariant).first_many
+pub block-overflow_add-second-in-loop-at : goal.block-overflow_add-second-in-loop-at
+block-overflow_add-second-in-loop-at t c = let h = within_at (block_of c.args.text.statements.now) c.args.text.live.now c.loop-at.at c.index-text-at.result (omega arith) c.loop-at.invariant.left in search (rules, h)
 
-pub block-split_at-requires-in-Some : goal.block-split_at-requires-in-Some
-block-split_at-requires-in-Some t c = subst (λ xs. c.in-Some.entry.now.second ≤ length xs) (sym c.split_at.ensures.back) (walk_next c.args.r.now c.args.text.statements.now c.args.held.now c.args.tally.now c.loop-entry.held c.loop-entry.tally c.loop-entry.live.now c.in-Some.entry.now c.in-Some.inner.now c.in-Some.ensures.cases.0 c.loop-entry.invariant).second_many
+pub block-overflow_add-behind : goal.block-overflow_add-behind
+block-overflow_add-behind t c = let h = within_at (block_of c.args.text.statements.now) c.args.text.live.now c.loop-at.at c.index-text-at.result (omega arith) c.loop-at.invariant.left in search (rules, h)
 
-pub block-offset_bounds-text-entry : goal.block-offset_bounds-text-entry
-block-offset_bounds-text-entry t c =
-    let n = walk_next c.args.r.now c.args.text.statements.now c.args.held.now c.args.tally.now c.loop-entry.held c.loop-entry.tally c.loop-entry.live.now c.in-Some.entry.now c.in-Some.inner.now c.in-Some.ensures.cases.0 c.loop-entry.invariant in
-    let below = place_below c.args.text.statements.now c.in-Some.entry.now.place n.s n.at in
-    search (rules, below)
+pub block-slice_bounds-part-end : goal.block-slice_bounds-part-end
+block-slice_bounds-part-end t c = let h = within_at (block_of c.args.text.statements.now) c.args.text.live.now c.loop-at.at c.index-text-at.result (omega arith) c.loop-at.invariant.left in search (rules, h)
 
-pub block-bounds-text-entry : goal.block-bounds-text-entry
-block-bounds-text-entry t c =
-    let n = walk_next c.args.r.now c.args.text.statements.now c.args.held.now c.args.tally.now c.loop-entry.held c.loop-entry.tally c.loop-entry.live.now c.in-Some.entry.now c.in-Some.inner.now c.in-Some.ensures.cases.0 c.loop-entry.invariant in
-    place_below c.args.text.statements.now c.in-Some.entry.now.place n.s n.at
+pub block-slice_bounds-part-end-in-loop-at : goal.block-slice_bounds-part-end-in-loop-at
+block-slice_bounds-part-end-in-loop-at t c = let h = within_at (block_of c.args.text.statements.now) c.args.text.live.now c.loop-at.at c.index-text-at.result (omega arith) c.loop-at.invariant.left in search (rules, h)
 
 pub block-statement-requires : goal.block-statement-requires
 block-statement-requires t c =
-    let n = walk_next c.args.r.now c.args.text.statements.now c.args.held.now c.args.tally.now c.loop-entry.held c.loop-entry.tally c.loop-entry.live.now c.in-Some.entry.now c.in-Some.inner.now c.in-Some.ensures.cases.0 c.loop-entry.invariant in
-    let is = place_read c.args.text.statements.now c.in-Some.entry.now.place n.s c.index-text-entry.result n.at in
-    let smaller = stmt_smaller c.args.text.statements.now c.in-Some.entry.now.place n.s n.at in
-    let same = ap (λ (s : St). stmt_size (stmt_of s.what)) is in
+    let smaller = smaller_at (block_of c.args.text.statements.now) c.args.text.live.now c.loop-at.at c.index-text-at.result (omega arith) c.loop-at.invariant.left in
     let d = c.decreases in (
-      omega (arith, d, smaller, same),
+      omega (arith, d, smaller),
       (
-        c.loop-entry.invariant.leads.running,
+        c.loop-at.invariant.leads.running,
         (
-          rw is (fine_at (functions c.args.r.now.linked.now) c.args.r.now.at c.args.r.now.kernel.now c.args.text.statements.now c.in-Some.entry.now.place n.s n.at c.requires.fits),
+          fits_at (block_of c.args.text.statements.now) c.args.text.live.now c.loop-at.at c.index-text-at.result (omega arith) c.loop-at.invariant.left (functions c.args.r.now.linked.now) c.args.r.now.at c.args.r.now.kernel.now c.requires.fits,
           record {
-            first = c.split_at.ensures.front ∙ (n.first ∙ ap (λ (s : St). first_of (stmt_of s.what)) (sym is));
-            second = c.split_at-in-Some.ensures.front ∙ (ap (take c.in-Some.entry.now.second) c.split_at.ensures.back ∙ (n.second ∙ ap (λ (s : St). second_of (stmt_of s.what)) (sym is)));
+            first = first_at (block_of c.args.text.statements.now) c.args.text.live.now c.loop-at.at c.index-text-at.result (omega arith) c.loop-at.invariant.left (c.loop-at.at + 1) _ refl refl;
+            second = second_at (block_of c.args.text.statements.now) c.args.text.live.now c.loop-at.at c.index-text-at.result (omega arith) c.loop-at.invariant.left _ _ refl refl;
           },
         ),
       ),
     )
 
 pub block-returns-in_err-statement-clause-exceeds : goal.block-returns-in_err-statement-clause-exceeds
-block-returns-in_err-statement-clause-exceeds t c = λ is.
-    let n = walk_next c.args.r.now c.args.text.statements.now c.args.held.now c.args.tally.now c.loop-entry.held c.loop-entry.tally c.loop-entry.live.now c.in-Some.entry.now c.in-Some.inner.now c.in-Some.ensures.cases.0 c.loop-entry.invariant in
-    let read = place_read c.args.text.statements.now c.in-Some.entry.now.place n.s c.index-text-entry.result n.at in
-    walk_stops c.args.r.now c.args.text.statements.now c.args.held.now c.args.tally.now c.loop-entry.held c.loop-entry.tally c.loop-entry.live.now c.in-Some.entry.now c.in-Some.inner.now c.in-Some.ensures.cases.0 c.loop-entry.invariant
-    (subst (λ (s : St). Exceeds c.args.r.now (stmt_items (stmt_of s.what)) (λ st. st) c.loop-entry.held c.loop-entry.tally) read
-    (c.statement.ensures.exceeds (steps_from c.statement.result c.from_residual.result c.in_err-statement.field-0.0 c.from_residual.ensures.1 c.in_err-statement.was is)))
+block-returns-in_err-statement-clause-exceeds t c = λ is. walk_stops c.args.r.now (block_of c.args.text.statements.now) c.args.text.live.now c.args.held.now c.args.tally.now c.loop-at.held c.loop-at.tally c.loop-at.at c.loop-at.invariant c.index-text-at.result (omega arith)
+    (c.statement.ensures.exceeds (steps_from c.statement.result c.from_residual.result c.in_err-statement.field-0.0 c.from_residual.ensures.1 c.in_err-statement.was is))
 
-pub block-loop-entry-preserved : goal.block-loop-entry-preserved
-block-loop-entry-preserved t c =
-    let n = walk_next c.args.r.now c.args.text.statements.now c.args.held.now c.args.tally.now c.loop-entry.held c.loop-entry.tally c.loop-entry.live.now c.in-Some.entry.now c.in-Some.inner.now c.in-Some.ensures.cases.0 c.loop-entry.invariant in
-    let read = place_read c.args.text.statements.now c.in-Some.entry.now.place n.s c.index-text-entry.result n.at in
-    subst (λ live. Walks c.args.r.now c.args.text.statements.now live c.args.held.now c.args.tally.now c.statement.new.held c.statement.new.tally)
-    (sym (c.split_at-in-Some.ensures.back ∙ ap (drop c.in-Some.entry.now.second) c.split_at.ensures.back))
-    (walk_goes c.args.r.now c.args.text.statements.now c.args.held.now c.args.tally.now c.loop-entry.held c.loop-entry.tally c.loop-entry.live.now c.in-Some.entry.now c.in-Some.inner.now c.in-Some.ensures.cases.0 c.loop-entry.invariant
-    (subst (λ (s : St). Runs c.args.r.now (stmt_items (stmt_of s.what)) (λ st. st) (λ st. st) c.loop-entry.held c.loop-entry.tally c.statement.new.held c.statement.new.tally) read c.in_ok-statement.ensures.runs))
+pub block-loop-at-preserved : goal.block-loop-at-preserved
+block-loop-at-preserved t c = walk_goes c.args.r.now (block_of c.args.text.statements.now) c.args.text.live.now c.args.held.now c.args.tally.now c.loop-at.held c.loop-at.tally c.loop-at.at c.loop-at.invariant c.index-text-at.result (omega arith) _ refl c.in_ok-statement.ensures.runs
 
 pub block-returns-clause-runs : goal.block-returns-clause-runs
-block-returns-clause-runs t c = walk_end c.args.r.now c.args.text.statements.now c.args.held.now c.args.tally.now c.loop-entry.held c.loop-entry.tally c.loop-entry.live.now c.in_default.ensures.cases c.loop-entry.invariant
+block-returns-clause-runs t c = walk_end c.args.r.now (block_of c.args.text.statements.now) c.args.text.live.now c.args.held.now c.args.tally.now c.loop-at.held c.loop-at.tally c.loop-at.at c.loop-at.invariant (omega arith)
 
 pub call-body-requires : goal.call-body-requires
 call-body-requires t c = callee_table c.args.r.now c.args.held.now c.args.tally.now c.args.v c.args.place (exprs_of c.args.es.now) c.requires.running.known c.requires.running.linked c.requires.fits c.callee-callee.result c.callee-callee.ensures.linked c.callee-callee.ensures.tables c.callee-callee.ensures.at c.callee-callee.ensures.earlier c.callee-callee.ensures.kernel c.requires.running.tables
@@ -169,12 +149,12 @@ pub rounds-returns-clause-runs : goal.rounds-returns-clause-runs
 rounds-returns-clause-runs t c = rounds_end c.args.r.now (λ is. While (expr_of c.args.e.now) c.args.n (block_of c.args.text.statements.now) ∷ is) (expr_of c.args.e.now) (block_of c.args.text.statements.now) c.args.held.now c.loop.held c.args.tally.now c.loop.tally (c.args.n - c.loop.counter) (omega (arith, c.loop-test.false)) c.loop.invariant
 
 pub turns-returns-then-is_empty-clause-runs : goal.turns-returns-then-is_empty-clause-runs
-turns-returns-then-is_empty-clause-runs t c = on_ok_weaker c.walk.result (λ e. idle_runs_all c.args.r.now (block_of c.args.text.statements.now) (idle_left c.args.text.statements.now 0 (ap length (sym c.requires.table.live) ∙ eqb-true (length c.args.text.live.now) 0 (sym c.if-is_empty.ensures))) (λ is. Repeat c.args.n (block_of c.args.text.statements.now) ∷ is) c.args.held.now c.args.tally.now c.args.n c.args.tally.now c.walk.new.self (e ∙ ap (λ n. with_steps c.args.tally.now n) c.from.ensures) (leads_first c.args.r.now (λ is. Repeat c.args.n (block_of c.args.text.statements.now) ∷ is) c.args.held.now c.args.tally.now c.requires.running)) c.walk.ensures.ok
+turns-returns-then-is_empty-clause-runs t c = on_ok_weaker c.walk.result (λ e. idle_runs_all c.args.r.now (block_of c.args.text.statements.now) (text_passed c.args.text c.requires.table (eqb-true (length c.args.text.live.now) 0 (sym c.if-is_empty.ensures))) (λ is. Repeat c.args.n (block_of c.args.text.statements.now) ∷ is) c.args.held.now c.args.tally.now c.args.n c.args.tally.now c.walk.new.self (e ∙ ap (λ n. with_steps c.args.tally.now n) c.from.ensures) (leads_first c.args.r.now (λ is. Repeat c.args.n (block_of c.args.text.statements.now) ∷ is) c.args.held.now c.args.tally.now c.requires.running)) c.walk.ensures.ok
 
 pub turns-returns-then-is_empty-clause-exceeds : goal.turns-returns-then-is_empty-clause-exceeds
 turns-returns-then-is_empty-clause-exceeds t c = λ is.
     let over = c.walk.ensures.steps is in
-    idle_exceeds c.args.r.now (block_of c.args.text.statements.now) (idle_left c.args.text.statements.now 0 (ap length (sym c.requires.table.live) ∙ eqb-true (length c.args.text.live.now) 0 (sym c.if-is_empty.ensures))) (λ is. Repeat c.args.n (block_of c.args.text.statements.now) ∷ is) c.args.held.now c.args.tally.now c.args.n c.args.tally.now refl (omega (arith, over, c.from.ensures)) (leads_first c.args.r.now (λ is. Repeat c.args.n (block_of c.args.text.statements.now) ∷ is) c.args.held.now c.args.tally.now c.requires.running)
+    idle_exceeds c.args.r.now (block_of c.args.text.statements.now) (text_passed c.args.text c.requires.table (eqb-true (length c.args.text.live.now) 0 (sym c.if-is_empty.ensures))) (λ is. Repeat c.args.n (block_of c.args.text.statements.now) ∷ is) c.args.held.now c.args.tally.now c.args.n c.args.tally.now refl (omega (arith, over, c.from.ensures)) (leads_first c.args.r.now (λ is. Repeat c.args.n (block_of c.args.text.statements.now) ∷ is) c.args.held.now c.args.tally.now c.requires.running)
 
 pub turns-loop-init : goal.turns-loop-init
 turns-loop-init t c = leads_start c.args.r.now (λ n is. Repeat n (block_of c.args.text.statements.now) ∷ is) c.args.n (c.args.n - 0) (omega arith) c.args.held.now c.args.tally.now c.requires.running

@@ -1,4 +1,4 @@
-use Rattle.std.proofs.Common.{◌+◌, ◌-◌, ◌∷◌, length}
+use Rattle.std.proofs.Common.{◌+◌, ◌-◌, ◌∷◌, drop, length}
 use Rattle.rely_kernel.specs.Machine.{Repeat, While, functions}
 use Rattle.rely_kernel.specs.Text.{block_of, expr_of, stmt_of}
 use Rattle.rely_machine.proofs.Idling.{Walks}
@@ -24,11 +24,11 @@ decreases-rounds l = before (functions l.r.now.linked.now) l.r.now.at + (1 + blo
 abbrev pub decreases-call : goal.decreases-call
 decreases-call l = before (functions l.r.now.linked.now) l.r.now.at
 
-abbrev pub invariant-block-loop-entry : goal.invariant-block-loop-entry
-invariant-block-loop-entry l = Walks l.r l.text.statements.now l.live l.fn.held l.fn.tally l.held l.tally
+abbrev pub invariant-block-loop-at : goal.invariant-block-loop-at
+invariant-block-loop-at l = Walks l.r (block_of l.text.statements.now) (drop l.at l.text.live.now) l.fn.held l.fn.tally l.held l.tally
 
-abbrev pub decreases-block-loop-entry : goal.decreases-block-loop-entry
-decreases-block-loop-entry l = length l.live
+abbrev pub decreases-block-loop-at : goal.decreases-block-loop-at
+decreases-block-loop-at l = length l.text.live.now - l.at
 
 abbrev pub invariant-rounds-loop : goal.invariant-rounds-loop
 invariant-rounds-loop l =
