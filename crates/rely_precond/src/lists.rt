@@ -59,58 +59,62 @@ pub(crate) fn are_skipped(written: VarSet, conjs: &[Conj]) -> bool
     conjs.iter().all(|c| is_skipped(written, c))
 }
 
-/// The conjuncts that have none of these variables.
-pub(crate) fn untouched(
+/// The conjuncts that have none of these variables, and those that have one of them.
+pub(crate) fn parted(
     alloc: Global,
     written: VarSet,
-    conjs: &[Conj],
-) -> Result<Vec<Conj>, PreFault>
-    ensures ok { IfOk result (λ list. list.items ≡ filter (λ c. bit_and written.bits c.vars.bits == 0) conjs.now) }
+    conjs: Vec<Conj>,
+) -> Result<(Vec<Conj>, Vec<Conj>), PreFault>
+    ensures others { IfOk result (λ p. p.0.items ≡ filter (λ c. bit_and written.bits c.vars.bits == 0) conjs.items) }
+    ensures own { IfOk result (λ p. p.1.items ≡ filter (λ c. not (bit_and written.bits c.vars.bits == 0)) conjs.items) }
     ensures err { IfErr result (λ f. f ≡ PreFault.Memory) }
 {
-    let mut list = Vec::new(alloc);
+    let mut others = Vec::new(alloc);
+    let mut own = Vec::new(alloc);
     for c in conjs {
-        if is_skipped(written, c) {
-            list.push(copy(alloc, c)?)?;
+        if is_skipped(written, &c) {
+            others.push(c)?;
+        } else {
+            own.push(c)?;
         }
     }
-    Ok(list)
+    Ok((others, own))
 }
 
-/// The conjuncts that have one of them.
-pub(crate) fn touched(alloc: Global, written: VarSet, conjs: &[Conj]) -> Result<Vec<Conj>, PreFault>
-    ensures ok { IfOk result (λ list. list.items ≡ filter (λ c. not (bit_and written.bits c.vars.bits == 0)) conjs.now) }
+/// A list with another behind it.
+pub(crate) fn joined(list: Vec<Conj>, more: Vec<Conj>) -> Result<Vec<Conj>, PreFault>
+    ensures ok { IfOk result (λ longer. longer.items ≡ list.items ++ more.items) }
     ensures err { IfErr result (λ f. f ≡ PreFault.Memory) }
 {
-    let mut list = Vec::new(alloc);
-    for c in conjs {
-        if !is_skipped(written, c) {
-            list.push(copy(alloc, c)?)?;
-        }
+    if list.is_empty() {
+        return Ok(more);
     }
-    Ok(list)
+    let mut longer = list;
+    for c in more {
+        longer.push(c)?;
+    }
+    Ok(longer)
 }
 
 /// A list with conjuncts behind it that have the labels and the names of a condition added.
 pub(crate) fn with_tested(
-    alloc: Global,
     k: &Kernel,
     at: Span,
     e: &Ex,
     list: Vec<Conj>,
-    conjs: &[Conj],
+    conjs: Vec<Conj>,
 ) -> Result<Vec<Conj>, PreFault>
     requires valid { IsValid k.now }
     requires in_range { ExprInRange k.now (expr_of e.now) }
     requires some { too_many list.items ≡ false }
-    requires few { too_many conjs.now ≡ false }
+    requires few { too_many conjs.items ≡ false }
     ensures few { IfOk result (λ longer. too_many longer.items ≡ false) }
-    ensures ok { IfOk result (λ longer. longer.items ≡ list.items ++ map (use_of k.now (expr_of e.now)) conjs.now) }
-    ensures err { IfErr result (λ f. IsFull at (map (use_of k.now (expr_of e.now)) conjs.now) f) }
+    ensures ok { IfOk result (λ longer. longer.items ≡ list.items ++ map (use_of k.now (expr_of e.now)) conjs.items) }
+    ensures err { IfErr result (λ f. IsFull at (map (use_of k.now (expr_of e.now)) conjs.items) f) }
 {
     let mut longer = list;
     for c in conjs {
-        let Some(tested) = use_of(k, e, copy(alloc, c)?) else {
+        let Some(tested) = use_of(k, e, c) else {
             return Err(PreFault::Count(at));
         };
         longer.push(tested)?;

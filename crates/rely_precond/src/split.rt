@@ -11,11 +11,11 @@ ghost use Rattle.rely_precond.specs.Places.{line_of};
 ghost use Rattle.rely_precond.specs.Walk.{Stands, stand, untouched, touched};
 
 use crate::fault::PreFault;
-use crate::lists::{touched, untouched, with_copies, with_tested};
+use crate::lists::{joined, parted, with_tested};
 use crate::standing::{Listed, of_few, stand};
 use crate::written::Marked;
 use rely_kernel::{Ex, Kernel, StKind};
-use rely_num::{Conj, Span, VarSet};
+use rely_num::{Conj, Span};
 use rely_predicate::Predicate;
 use std::alloc::Global;
 
@@ -26,30 +26,21 @@ pub(crate) struct Parts {
     pub(crate) own: Listed,
 }
 
-pub(crate) fn split(alloc: Global, statement: &Marked, listed: &Listed) -> Result<Parts, PreFault>
-    ensures others { IfOk result (λ s. s.others.items ≡ untouched (line_of statement.now.what.now) listed.now.list.conjs) }
+pub(crate) fn split(alloc: Global, statement: &Marked, listed: Listed) -> Result<Parts, PreFault>
+    ensures others { IfOk result (λ s. s.others.items ≡ untouched (line_of statement.now.what.now) listed.list.conjs) }
     ensures few { IfOk result (λ s. too_many s.others.items ≡ false) }
-    ensures own { IfOk result (λ s. s.own.list.conjs ≡ touched (line_of statement.now.what.now) listed.now.list.conjs) }
-    ensures work { IfOk result (λ s. s.own.work ≡ listed.now.work) }
-    ensures labels { IfOk result (λ s. s.own.list.labels ≡ listed.now.list.labels) }
-    ensures counted { IfOk result (λ s. All (λ c. length c.counts ≡ listed.now.list.labels) s.others.items) }
+    ensures own { IfOk result (λ s. s.own.list.conjs ≡ touched (line_of statement.now.what.now) listed.list.conjs) }
+    ensures work { IfOk result (λ s. s.own.work ≡ listed.work) }
+    ensures labels { IfOk result (λ s. s.own.list.labels ≡ listed.list.labels) }
+    ensures counted { IfOk result (λ s. All (λ c. length c.counts ≡ listed.list.labels) s.others.items) }
     ensures err { IfErr result (λ f. f ≡ PreFault.Memory) }
 {
-    let others = untouched(alloc, statement.written, listed.list.conjs())?;
-    let own = Listed {
-        list: own(alloc, statement.written, &listed.list)?,
-        work: listed.work,
-    };
+    let labels = listed.list.shape();
+    let work = listed.work;
+    let (others, own) = parted(alloc, statement.written, listed.list.into_conjs())?;
+    let list = of_few(alloc, labels, own)?;
+    let own = Listed { list, work };
     Ok(Parts { others, own })
-}
-
-fn own(alloc: Global, written: VarSet, list: &Predicate) -> Result<Predicate, PreFault>
-    ensures ok { IfOk result (λ p. p.conjs ≡ filter (λ c. not (bit_and written.bits c.vars.bits == 0)) list.now.conjs) }
-    ensures labels { IfOk result (λ p. p.labels ≡ list.now.labels) }
-    ensures err { IfErr result (λ f. f ≡ PreFault.Memory) }
-{
-    let conjs = touched(alloc, written, list.conjs())?;
-    of_few(alloc, list.shape(), conjs)
 }
 
 /// The same predicate once more.
@@ -74,8 +65,10 @@ pub(crate) fn stand_turned(
     ensures labels { IfOk result (λ l. l.list.labels ≡ turned.list.labels) }
     ensures refused { IfErr result (λ f. IsStop (stand at (others.items ++ turned.list.conjs) turned.work) f) }
 {
-    let list = with_copies(alloc, others, turned.list.conjs())?;
-    stand(alloc, turned.list.shape(), at, list, turned.work)
+    let labels = turned.list.shape();
+    let work = turned.work;
+    let list = joined(others, turned.list.into_conjs())?;
+    stand(alloc, labels, at, list, work)
 }
 
 /// So does what two branches left, with the condition added.
@@ -85,21 +78,23 @@ pub(crate) fn stand_branches(
     at: Span,
     e: &Ex,
     others: Vec<Conj>,
-    first: &Listed,
+    first: Listed,
     second: Listed,
 ) -> Result<Listed, PreFault>
     requires valid { IsValid k.now }
     requires condition { ExprInRange k.now (expr_of e.now) }
     requires others { All (λ c. length c.counts ≡ second.list.labels) others.items }
     requires few { too_many others.items ≡ false }
-    requires labels { first.now.list.labels ≡ second.list.labels }
-    ensures ok { IfOk result (λ l. stand at (others.items ++ map (use_of k.now (expr_of e.now)) (first.now.list.conjs ++ second.list.conjs)) second.work
+    requires labels { first.list.labels ≡ second.list.labels }
+    ensures ok { IfOk result (λ l. stand at (others.items ++ map (use_of k.now (expr_of e.now)) (first.list.conjs ++ second.list.conjs)) second.work
         ≡ Stands l.list.conjs l.work) }
     ensures labels { IfOk result (λ l. l.list.labels ≡ second.list.labels) }
     ensures refused { IfErr result (λ f. IsStop
-        (stand at (others.items ++ map (use_of k.now (expr_of e.now)) (first.now.list.conjs ++ second.list.conjs)) second.work) f) }
+        (stand at (others.items ++ map (use_of k.now (expr_of e.now)) (first.list.conjs ++ second.list.conjs)) second.work) f) }
 {
-    let list = with_tested(alloc, k, at, e, others, first.list.conjs())?;
-    let list = with_tested(alloc, k, at, e, list, second.list.conjs())?;
-    stand(alloc, second.list.shape(), at, list, second.work)
+    let labels = second.list.shape();
+    let work = second.work;
+    let list = with_tested(k, at, e, others, first.list.into_conjs())?;
+    let list = with_tested(k, at, e, list, second.list.into_conjs())?;
+    stand(alloc, labels, at, list, work)
 }

@@ -79,7 +79,7 @@ fn walk(alloc: Global, k: &Kernel, statement: &Marked, listed: Listed) -> Result
     if is_plain(statement.what) {
         return walk_plain(alloc, k, statement, listed);
     }
-    let parts = split(alloc, statement, &listed)?;
+    let parts = split(alloc, statement, listed)?;
     walk_inside(alloc, k, statement, parts.others, parts.own)
 }
 
@@ -177,12 +177,10 @@ fn walk_branches(
 {
     let list = copy_of(alloc, &own.list)?;
     let first = walk_all(alloc, k, first, own)?;
-    let own = Listed {
-        list,
-        work: first.work,
-    };
+    let work = first.work;
+    let own = Listed { list, work };
     let second = walk_all(alloc, k, second, own)?;
-    stand_branches(alloc, k, at, e, others, &first, second)
+    stand_branches(alloc, k, at, e, others, first, second)
 }
 
 // The turns of `repeat`, as far as none is settled.

@@ -12,7 +12,7 @@ ghost use Rattle.rely_precond.specs.InRange.{ExprInRange};
 ghost use Rattle.rely_precond.specs.Walk.{Stands, stand, all_covered, settled, multiply};
 
 use crate::fault::PreFault;
-use crate::lists::{with_copies, with_tested};
+use crate::lists::{joined, with_copies, with_tested};
 use crate::standing::{Listed, stand, worked};
 use rely_kernel::{Ex, Kernel};
 use rely_loops::{LoopFault, shift, times};
@@ -103,11 +103,14 @@ pub(crate) fn turn_while(
     ensures labels { IfOk result (λ turn. turn.listed.list.labels ≡ through.list.labels) }
     ensures refused { IfErr result (λ f. IsStop (stand at (map (use_of k.now (expr_of e.now)) (through.list.conjs ++ behind.now)) through.work) f) }
 {
-    let again = with_tested(alloc, k, at, e, Vec::new(alloc), through.list.conjs())?;
-    let joining = with_tested(alloc, k, at, e, Vec::new(alloc), behind)?;
+    let labels = through.list.shape();
+    let work = through.work;
+    let again = with_tested(k, at, e, Vec::new(alloc), through.list.into_conjs())?;
+    let behind = with_copies(alloc, Vec::new(alloc), behind)?;
+    let joining = with_tested(k, at, e, Vec::new(alloc), behind)?;
     let is_covered = all_covered(&joining, &again);
-    let list = with_copies(alloc, again, &joining)?;
-    let listed = stand(alloc, through.list.shape(), at, list, through.work)?;
+    let list = joined(again, joining)?;
+    let listed = stand(alloc, labels, at, list, work)?;
     Ok(Turn { listed, is_covered })
 }
 
