@@ -4,7 +4,7 @@ ghost use Rattle.chisel_bench.specs.Made.{IsShape};
 
 use crate::made::{ENERGY_SEED, Shape};
 use crate::work::{Task, Work};
-use chisel_orders::{Branch, Order, Strategy};
+use chisel_options::{Branch, Order, Strategy};
 
 /// As many parts as a search may take, and a certificate may have nodes.
 const MOST_NODES: u32 = 100_000;

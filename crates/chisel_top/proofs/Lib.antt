@@ -1,5 +1,6 @@
 pub mod OneAnswers
 pub mod Reaching
+pub mod Reported
 pub mod Rewritten
 pub mod Runs
 pub mod Sources

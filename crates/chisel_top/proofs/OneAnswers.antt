@@ -1,10 +1,10 @@
 -- What is found has at most one answer.
 use Rattle.std.proofs.Common.{Some, None, Ok, Err, sym, ◌∙◌}
 use Rattle.rely_num.specs.Texts.{Bytes}
-use Rattle.chisel_choose.proofs.Once.{one_answer as one_choice}
+use Rattle.chisel_optimise.proofs.Once.{one_answer as one_choice}
 use Rattle.chisel_lines.specs.Faults.{Both, IsStop, NoForm, Refused, Stop, TooLong, Unread}
 use Rattle.chisel_lines.specs.declared.status.Status.{Status}
-use Rattle.chisel_runs.proofs.OneAnswers.{one_answer as one_run}
+use Rattle.chisel_run.proofs.OneAnswers.{one_answer as one_run}
 use Rattle.chisel_verify.proofs.Promising.{one_answer as one_verdict}
 use Rattle.chisel_top.specs.Findings.{Choosing, Judging, OneAnswer, Running}
 

@@ -1,17 +1,17 @@
 -- What the commands come to, step by step.
 use Rattle.std.proofs.Common.{◌≡◌, ℕ, List, [], ◌∷◌, Option, Some, None, Result, Ok, Err, length, ◌≤◌, refl, sym, ap, subst, ◌∙◌}
 use Rattle.rely_num.specs.Texts.{Bytes}
-use Rattle.chisel_choose.specs.Answers as choose
-use Rattle.chisel_choose.specs.Promises.{IsInput, IsJob}
-use Rattle.chisel_choose.specs.declared.certified.Asked.{Asked as What}
-use Rattle.chisel_choose.specs.declared.certified.Asked.TheVariants as certificate
-use Rattle.chisel_front.specs.declared.choosing.Problem.{Problem}
-use Rattle.chisel_front.specs.Choosing.{IsProblem, certificate_work, made_problem, problem_work}
-use Rattle.chisel_front.proofs.Problems.{certificate_exactly, certificate_formed, made_formed, problem_exactly, problem_formed}
-use Rattle.chisel_front.specs.Works.{Comes, Content, Done, OpensOf, Work, Works}
-use Rattle.chisel_front.specs.Front.{closed_work, starts_work}
-use Rattle.chisel_front.proofs.Opening.{Exactly, Formed, closed_exactly, closed_formed, exactly_opens, exactly_then, formed_then, starts_exactly, starts_formed}
-use Rattle.chisel_front.proofs.Working.{works_done, works_ends, works_goes, works_last, works_same, works_stop, works_then}
+use Rattle.chisel_optimise.specs.Answers as choose
+use Rattle.chisel_optimise.specs.Promises.{IsInput, IsJob}
+use Rattle.chisel_optimise.specs.declared.certified.Asked.{Asked as What}
+use Rattle.chisel_optimise.specs.declared.certified.Asked.TheVariants as certificate
+use Rattle.chisel_files.specs.declared.choosing.Problem.{Problem}
+use Rattle.chisel_files.specs.Choosing.{IsProblem, certificate_work, made_problem, problem_work}
+use Rattle.chisel_files.proofs.Problems.{certificate_exactly, certificate_formed, made_formed, problem_exactly, problem_formed}
+use Rattle.chisel_files.specs.Works.{Comes, Content, Done, OpensOf, Work, Works}
+use Rattle.chisel_files.specs.Front.{closed_work, starts_work}
+use Rattle.chisel_files.proofs.Opening.{Exactly, Formed, closed_exactly, closed_formed, exactly_opens, exactly_then, formed_then, starts_exactly, starts_formed}
+use Rattle.chisel_files.proofs.Working.{works_done, works_ends, works_goes, works_last, works_same, works_stop, works_then}
 use Rattle.chisel_lines.specs.Faults.{NoForm, Stop}
 use Rattle.chisel_lines.specs.declared.answer.Answer.{Answer}
 use Rattle.chisel_lines.specs.declared.fault.Fault.{Fault}
@@ -20,15 +20,15 @@ use Rattle.chisel_outside.specs.Outside.{Log}
 use Rattle.std.specs.List.{All}
 use Rattle.rely_kernel.specs.Bound.{IsStart}
 use Rattle.rely_kernel.specs.declared.setting.Store.{Store}
-use Rattle.chisel_ready.specs.Meaning.{AreClosed, IsReady}
-use Rattle.chisel_ready.specs.declared.ready.Ready.{Ready}
-use Rattle.chisel_runs.specs.Answer as runs
-use Rattle.chisel_runs.specs.Calls.{barred_call}
+use Rattle.chisel_source.specs.Meaning.{AreClosed, IsReady}
+use Rattle.chisel_source.specs.declared.ready.Ready.{Ready}
+use Rattle.chisel_run.specs.Answer as runs
+use Rattle.chisel_run.specs.Calls.{barred_call}
 use Rattle.chisel_verify.specs.Answer as verify
 use Rattle.std.specs.Prelude.{IfSome, option_map}
 use Rattle.chisel_words.specs.declared.words.Asked.{Asked}
 use Rattle.chisel_words.specs.Asked.{asked_by}
-use Rattle.chisel_words.specs.declared.options.Trials.{Trials}
+use Rattle.chisel_options.specs.declared.trials.Trials.{Trials}
 use Rattle.chisel_top.specs.Findings.{Choosing, Finding, Judging, Running, certificate_of, certified_work, certifying, choosing, inputs_of, judging, make_work, optimise_work, running, running_from, unbarred, unless_barred, work_of}
 use Rattle.chisel_top.specs.Outcomes.{Final, Reaches}
 use Rattle.chisel_words.specs.Words.{Certified, Command, KeepsLimits, Make, Optimise, Simulate, ToCheck, ToMake, ToMigrate, ToOptimise, ToRewrite, ToRun, ToVerify, Verify, certified_files, files_of}

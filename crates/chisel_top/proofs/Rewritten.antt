@@ -1,15 +1,15 @@
 -- What `verify` says of a source that `rewrite` wrote, from the law of reports.
 use Rattle.std.proofs.Common.{◌≤◌, length, subst}
 use Rattle.rely_num.specs.Texts.{Bytes}
-use Rattle.chisel_choose.specs.Answers.{AnswersBy, Input, IsCertified, Job}
-use Rattle.chisel_choose.specs.Promises.{IsInput}
-use Rattle.chisel_choose.specs.declared.certified.Asked.TheVariants.{Rewrite}
-use Rattle.chisel_choose.proofs.Best.{stands}
-use Rattle.chisel_choose.proofs.Promising.{certified_goes_on, good_answers, names_best}
+use Rattle.chisel_optimise.specs.Answers.{AnswersBy, Input, IsCertified, Job}
+use Rattle.chisel_optimise.specs.Promises.{IsInput}
+use Rattle.chisel_optimise.specs.declared.certified.Asked.TheVariants.{Rewrite}
+use Rattle.chisel_optimise.proofs.Best.{stands}
+use Rattle.chisel_optimise.proofs.Promising.{certified_goes_on, good_answers, names_best}
 use Rattle.chisel_lines.specs.declared.answer.Answer.TheVariants.{Text}
 use Rattle.chisel_lines.specs.declared.status.Grade.TheVariants.{Good}
 use Rattle.chisel_problem.proofs.Bounds.{main_valid}
-use Rattle.chisel_reports.proofs.Reported.{reported_as_chosen}
+use Rattle.chisel_top.proofs.Reported.{reported_as_chosen}
 use Rattle.chisel_top.specs.Rewriting.{IsMeaning, Promise, VerifiesBest}
 use Rattle.chisel_top.specs.Findings.{Choosing}
 use Rattle.chisel_top.proofs.Sources.{IsOfSource}

@@ -1,10 +1,10 @@
 -- What the outcome of a command and its telling promise of the whole run.
 use Rattle.std.proofs.Common.{◌≡◌, ℕ, true, List, [], ◌∷◌, ◌++◌, drop, length, Option, Some, None, Result, Ok, Err, refl, sym, ap, subst, ◌∙◌, append_assoc, Bor, ◌⊎◌, inl, inr}
 use Rattle.rely_num.specs.Texts.{Bytes}
-use Rattle.chisel_choose.proofs.Promising.{keeps_promise as keeps_choice}
-use Rattle.chisel_front.specs.Contents.{Gained, is_marked, names_of}
-use Rattle.chisel_front.specs.Works.{Comes, Content, Did}
-use Rattle.chisel_front.proofs.Opening.{Contents, IsSettled, contents_of, fails_last, gained as gained_names, marked_fails, never_words}
+use Rattle.chisel_optimise.proofs.Promising.{keeps_promise as keeps_choice}
+use Rattle.chisel_files.specs.Contents.{Gained, is_marked, names_of}
+use Rattle.chisel_files.specs.Works.{Comes, Content, Did}
+use Rattle.chisel_files.proofs.Opening.{Contents, IsSettled, contents_of, fails_last, gained as gained_names, marked_fails, never_words}
 use Rattle.chisel_lines.specs.Answers.{answer_status, answer_text}
 use Rattle.chisel_lines.specs.Faults.{Stop, fault_line, fault_status, memory_line, read_line}
 use Rattle.chisel_lines.specs.Refusals.{refusal_status}

@@ -8,21 +8,21 @@ use Rattle.rely_kernel.specs.declared.kernel.Linked.{Linked}
 use Rattle.rely_resolve.specs.Linked.{linked_of}
 use Rattle.rely_resolve.specs.declared.fault.NameFault.{NameFault}
 use Rattle.rely_tree.specs.Tree.{UnitTree}
-use Rattle.chisel_choose.specs.Answers as choose
-use Rattle.chisel_choose.specs.declared.certified.Asked.{Asked as What}
-use Rattle.chisel_choose.specs.declared.certified.Asked.TheVariants as certificate
-use Rattle.chisel_front.specs.Choosing.{certificate_work, made_problem, open_work, opening, opening_behind, opening_in, problem_by, problem_from, problem_work, starting, unless_closed}
-use Rattle.chisel_front.specs.Files.{file, longest}
-use Rattle.chisel_front.specs.Front.{closed_work, hardware_work, kept_with, meaning_in, meant_work, ready_work, source_work, starts_work}
-use Rattle.chisel_front.specs.Refused.{meaning_refusal, source_refusal, stopped_by}
-use Rattle.chisel_front.specs.Works.{Content, Done, Open, Work, found, ◌then◌}
+use Rattle.chisel_optimise.specs.Answers as choose
+use Rattle.chisel_optimise.specs.declared.certified.Asked.{Asked as What}
+use Rattle.chisel_optimise.specs.declared.certified.Asked.TheVariants as certificate
+use Rattle.chisel_files.specs.Choosing.{certificate_work, made_problem, open_work, opening, opening_behind, opening_in, problem_by, problem_from, problem_work, starting, unless_closed}
+use Rattle.chisel_files.specs.Files.{file, longest}
+use Rattle.chisel_files.specs.Front.{closed_work, hardware_work, kept_with, meaning_in, meant_work, ready_work, source_work, starts_work}
+use Rattle.chisel_files.specs.Refused.{meaning_refusal, source_refusal, stopped_by}
+use Rattle.chisel_files.specs.Works.{Content, Done, Open, Work, found, ◌then◌}
 use Rattle.chisel_lines.specs.declared.refusal.Refusal.{Refusal}
-use Rattle.chisel_ready.specs.Meaning.{fault_by, meaning, ready_by, unit_in, ◌>>=◌}
-use Rattle.chisel_ready.specs.Open.{open_place, open_place_in}
-use Rattle.chisel_ready.specs.declared.fault.MeaningFault.TheVariants as meaning_fault
-use Rattle.chisel_ready.specs.declared.ready.Meant.{Meant}
-use Rattle.chisel_ready.specs.declared.ready.Ready.{Ready}
-use Rattle.chisel_runs.specs.Answer as runs
+use Rattle.chisel_source.specs.Meaning.{fault_by, meaning, ready_by, unit_in, ◌>>=◌}
+use Rattle.chisel_source.specs.Open.{open_place, open_place_in}
+use Rattle.chisel_source.specs.declared.fault.MeaningFault.TheVariants as meaning_fault
+use Rattle.chisel_source.specs.declared.ready.Meant.{Meant}
+use Rattle.chisel_source.specs.declared.ready.Ready.{Ready}
+use Rattle.chisel_run.specs.Answer as runs
 use Rattle.chisel_verify.specs.Answer as verify
 use Rattle.chisel_words.specs.Words.{Certified, Command, ToCheck, ToMake, ToMigrate, ToOptimise, ToRewrite, ToRun, ToVerify, form}
 use Rattle.chisel_top.specs.Findings.{Choosing, Finding, Judging, Running, certificate_of, certified_work, certifying, choosing, finding, inputs_of, judging, running, running_from, unbarred, work_of}

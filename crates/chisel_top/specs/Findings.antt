@@ -3,25 +3,25 @@
 use Rattle.std.specs.Prelude.{ℕ, List, Option, Some, None, Result, Ok, Err}
 use Rattle.rely_num.specs.Texts.{Bytes}
 use Rattle.rely_kernel.specs.declared.setting.Store.{Store}
-use Rattle.chisel_choose.specs.Answers as choose
-use Rattle.chisel_choose.specs.Promises as choose_promises
-use Rattle.chisel_choose.specs.declared.certified.Asked.{Asked}
-use Rattle.chisel_choose.specs.declared.certified.Asked.TheVariants as certificate
-use Rattle.chisel_front.specs.declared.choosing.Problem.{Problem}
-use Rattle.chisel_front.specs.Choosing.{certificate_work, made_problem, problem_work}
-use Rattle.chisel_front.specs.Front.{closed_work, starts_work}
-use Rattle.chisel_front.specs.Works.{Content, Done, Work, found, opened, ◌then◌}
+use Rattle.chisel_optimise.specs.Answers as choose
+use Rattle.chisel_optimise.specs.Promises as choose_promises
+use Rattle.chisel_optimise.specs.declared.certified.Asked.{Asked}
+use Rattle.chisel_optimise.specs.declared.certified.Asked.TheVariants as certificate
+use Rattle.chisel_files.specs.declared.choosing.Problem.{Problem}
+use Rattle.chisel_files.specs.Choosing.{certificate_work, made_problem, problem_work}
+use Rattle.chisel_files.specs.Front.{closed_work, starts_work}
+use Rattle.chisel_files.specs.Works.{Content, Done, Work, found, opened, ◌then◌}
 use Rattle.chisel_lines.specs.Faults.{Both, IsStop, NoForm, Refused, Stop}
 use Rattle.chisel_lines.specs.declared.refusal.Reason.TheVariants as reason
 use Rattle.chisel_lines.specs.declared.refusal.Refusal.TheVariants.{Source}
 use Rattle.chisel_lines.specs.declared.status.Status.{Status}
-use Rattle.chisel_ready.specs.declared.ready.Ready.{Ready}
-use Rattle.chisel_runs.specs.Answer as runs
-use Rattle.chisel_runs.specs.Calls.{barred_call}
+use Rattle.chisel_source.specs.declared.ready.Ready.{Ready}
+use Rattle.chisel_run.specs.Answer as runs
+use Rattle.chisel_run.specs.Calls.{barred_call}
 use Rattle.chisel_verify.specs.Answer as verify
 use Rattle.chisel_verify.specs.Promises as verify_promises
 use Rattle.chisel_top.specs.Rewriting as rewriting
-use Rattle.chisel_words.specs.declared.options.Trials.{Trials}
+use Rattle.chisel_options.specs.declared.trials.Trials.{Trials}
 use Rattle.chisel_words.specs.Words.{Certified, Command, Make, Optimise, Simulate, ToCheck, ToMake, ToMigrate, ToOptimise, ToRewrite, ToRun, ToVerify, Verify, form}
 
 -- what each family is asked

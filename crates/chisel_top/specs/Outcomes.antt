@@ -1,7 +1,7 @@
 -- What the commands come to over a shelf, for the contracts of private parts.
 use Rattle.std.specs.Prelude.{◌≡◌, Option, Result, Ok, Err}
 use Rattle.rely_num.specs.Texts.{Bytes}
-use Rattle.chisel_front.specs.Works.{Content, Work, Works}
+use Rattle.chisel_files.specs.Works.{Content, Work, Works}
 use Rattle.chisel_lines.specs.Answers.{answer_status, answer_text}
 use Rattle.chisel_lines.specs.Faults.{fault_line, fault_status}
 use Rattle.chisel_lines.specs.declared.answer.Answer.{Answer}

@@ -1,8 +1,8 @@
 -- What the top call promises: of the log, of the sink, of what is written and of its lines.
 use Rattle.std.specs.Prelude.{ℕ, ◌≡◌, true, List, [], ◌∷◌, ◌++◌, drop, length, Option, option_map, ◌⊎◌}
 use Rattle.rely_num.specs.Texts.{Bytes}
-use Rattle.chisel_front.specs.Contents.{Agree, FirstOf, Gained, is_marked, names_of}
-use Rattle.chisel_front.specs.Works.{Content}
+use Rattle.chisel_files.specs.Contents.{Agree, FirstOf, Gained, is_marked, names_of}
+use Rattle.chisel_files.specs.Works.{Content}
 use Rattle.chisel_lines.specs.Faults.{memory_line, read_line, words_line}
 use Rattle.chisel_lines.specs.declared.status.Status.{Status}
 use Rattle.chisel_lines.specs.declared.status.Status.TheVariants as status

@@ -3,16 +3,16 @@ use Rattle.std.specs.Prelude.{ℕ, ◌≡◌, ◌≤◌, Bool, List, length, Ok}
 use Rattle.rely_num.specs.Texts.{Bytes}
 use Rattle.rely_resolve.specs.Linked.{linked_of}
 use Rattle.rely_tree.specs.Tree.{UnitTree}
-use Rattle.chisel_choose.specs.Answers.{Certify, Input, IsAnswer}
-use Rattle.chisel_choose.specs.Promises.{NamesBest}
-use Rattle.chisel_choose.specs.declared.certified.Asked.TheVariants.{Rewrite}
+use Rattle.chisel_optimise.specs.Answers.{Certify, Input, IsAnswer}
+use Rattle.chisel_optimise.specs.Promises.{NamesBest}
+use Rattle.chisel_optimise.specs.declared.certified.Asked.TheVariants.{Rewrite}
 use Rattle.chisel_claims.specs.Verdicts.{AllAccepted, JudgedClaim, callees_of}
-use Rattle.chisel_front.specs.Files.{longest}
+use Rattle.chisel_files.specs.Files.{longest}
 use Rattle.chisel_lines.specs.declared.status.Status.{Status}
 use Rattle.chisel_lines.specs.declared.status.Status.TheVariants.{Done}
-use Rattle.chisel_ready.specs.Meaning.{unit_in}
-use Rattle.chisel_ready.specs.declared.ready.Ready.{Ready}
-use Rattle.chisel_reports.specs.Reports.{IsReported}
+use Rattle.chisel_source.specs.Meaning.{unit_in}
+use Rattle.chisel_source.specs.declared.ready.Ready.{Ready}
+use Rattle.chisel_top.specs.Reports.{IsReported}
 
 -- the tree of the source, and the name of its function
 pub record IsMeaning (r : Ready) : Type 0 where

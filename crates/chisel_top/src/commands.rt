@@ -3,23 +3,24 @@
 ghost use Rattle.std.specs.Prelude.{◌≡◌, ◌≤◌, List, ℕ, Option, None, Some, Ok, IfOk, OnOk};
 ghost use Rattle.rely_num.specs.Texts.{Bytes};
 ghost use Rattle.chisel_outside.specs.Outside.{Log};
-ghost use Rattle.chisel_choose.specs.Answers.{given, job_of};
-ghost use Rattle.chisel_choose.specs.Promises.{IsJob};
+ghost use Rattle.chisel_optimise.specs.Answers.{given, job_of};
+ghost use Rattle.chisel_optimise.specs.Promises.{IsJob};
 ghost use Rattle.chisel_words.specs.Asked.{to_certified, to_make, to_optimise, to_run, to_verify};
 ghost use Rattle.chisel_words.specs.Words.{ToMake, ToOptimise, ToRun, ToVerify};
-ghost use Rattle.chisel_front.specs.Choosing.{IsProblem};
-ghost use Rattle.chisel_front.specs.Works.{Comes, Content};
-ghost use Rattle.chisel_runs.specs.Calls.{barred_call};
+ghost use Rattle.chisel_files.specs.Choosing.{IsProblem};
+ghost use Rattle.chisel_files.specs.Works.{Comes, Content};
+ghost use Rattle.chisel_run.specs.Calls.{barred_call};
 ghost use Rattle.chisel_top.specs.Findings.{Choosing, certified_work, unbarred, work_of};
 ghost use Rattle.chisel_top.specs.Outcomes.{Final, Reaches};
 
-use chisel_choose::{Asked, Task, choose};
-use chisel_front::{Names, Problem, certificate, closed_ready, made, read_problem, starts};
+use chisel_files::{Names, Problem, certificate, closed_ready, made, read_problem, starts};
 use chisel_lines::{Answer, Fault, Reason, Refusal};
+use chisel_optimise::{Asked, Task, choose};
+use chisel_options::Trials;
 use chisel_outside::Shelf;
-use chisel_ready::Ready;
-use chisel_runs::barred_call;
-use chisel_words::{CertifiedWords, MakeWords, OptimiseWords, RunWords, Trials, VerifyWords};
+use chisel_run::barred_call;
+use chisel_source::Ready;
+use chisel_words::{CertifiedWords, MakeWords, OptimiseWords, RunWords, VerifyWords};
 use std::alloc::Global;
 
 /// The command `verify`.
@@ -74,7 +75,7 @@ pub(crate) fn simulate<'w, F: Shelf>(
         Ok(starts) => starts,
         Err(fault) => return Err(fault),
     };
-    match chisel_runs::run(alloc, &ready, words.trials, starts.as_slice()) {
+    match chisel_run::run(alloc, &ready, words.trials, starts.as_slice()) {
         Ok(answer) => Ok(answer),
         Err(_) => Err(Fault::Memory),
     }

@@ -7,5 +7,5 @@ mod program;
 mod tell;
 
 pub use chisel_lines::Status;
-pub use law::one_answer;
+pub use law::{one_answer, reported_as_chosen};
 pub use program::run;

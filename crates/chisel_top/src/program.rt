@@ -32,9 +32,19 @@ fn outcome<'w, F: Shelf>(
         None => Err(Fault::Words),
         Some(Asked::Verify(words)) => verify(alloc, words, shelf),
         Some(Asked::Optimise(words)) => optimise(alloc, words, shelf),
-        Some(Asked::Check(words)) => certify(alloc, words, chisel_choose::Asked::Check, shelf),
-        Some(Asked::Rewrite(words)) => certify(alloc, words, chisel_choose::Asked::Rewrite, shelf),
-        Some(Asked::Migrate(words)) => certify(alloc, words, chisel_choose::Asked::Migrate, shelf),
+        Some(Asked::Check(words)) => certify(alloc, words, chisel_optimise::Asked::Check, shelf),
+        Some(Asked::Rewrite(words)) => certify(
+            alloc,
+            words,
+            chisel_optimise::Asked::Rewrite,
+            shelf,
+        ),
+        Some(Asked::Migrate(words)) => certify(
+            alloc,
+            words,
+            chisel_optimise::Asked::Migrate,
+            shelf,
+        ),
         Some(Asked::Run(words)) => simulate(alloc, words, shelf),
         Some(Asked::Make(words)) => measure(alloc, words),
     }

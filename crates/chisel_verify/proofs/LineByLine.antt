@@ -16,7 +16,7 @@ use Rattle.rely_verdict.specs.declared.verdict.Verdict.{Verdict}
 use Rattle.chisel_claims.proofs.Claiming.{limited_behind, limited_then}
 use Rattle.chisel_claims.specs.Verdicts.{AllAccepted, Called, IsLimited, JudgedClaim, OneFails, after_callee, callee_on, callees_after, callees_of, in_use_from, is_accepted, judgement, own_after, own_judged, ◌>>=◌}
 use Rattle.chisel_lines.specs.ClaimLines.{line_on}
-use Rattle.chisel_ready.specs.declared.ready.Ready.{Ready}
+use Rattle.chisel_source.specs.declared.ready.Ready.{Ready}
 use Rattle.chisel_verify.specs.Lines.{behind_callees, callee_text, lines_of, own_text}
 use Rattle.chisel_verify.specs.Printing.{AreCalleeLines, Prints, PrintsCallees, PrintsOwn}
 use Rattle.chisel_verify.specs.declared.callees.CalleeLines.{CalleeLines}

@@ -7,7 +7,7 @@ use Rattle.chisel_lines.specs.Faults.{Both}
 use Rattle.chisel_lines.specs.Refusals.{limit_refusal, refusal_line, refusal_status}
 use Rattle.chisel_lines.specs.Statuses.{status_of}
 use Rattle.chisel_lines.specs.declared.status.Status.{Status}
-use Rattle.chisel_ready.specs.declared.ready.Ready.{Ready}
+use Rattle.chisel_source.specs.declared.ready.Ready.{Ready}
 use Rattle.chisel_verify.specs.Lines.{Said, grade_on, lines_of, text_of, verdicts_of}
 
 -- what is ready, and whether the lines of the functions that are called are wanted

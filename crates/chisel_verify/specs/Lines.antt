@@ -9,7 +9,7 @@ use Rattle.chisel_claims.specs.Verdicts.{AllAccepted, Called, JudgedClaim, OneFa
 use Rattle.chisel_lines.specs.ClaimLines.{callee_line, line_on}
 use Rattle.chisel_lines.specs.declared.status.Grade.{Grade}
 use Rattle.chisel_lines.specs.declared.status.Grade.TheVariants.{Good, Failing, Undecided}
-use Rattle.chisel_ready.specs.declared.ready.Ready.{Ready}
+use Rattle.chisel_source.specs.declared.ready.Ready.{Ready}
 
 -- claims in use of the functions that are called, and then claims of the function; and those whose verdicts give the status,
 -- which are the function's, or the one callee's that isn't accepted

@@ -2,7 +2,7 @@
 use Rattle.std.specs.Prelude.{◌≡◌, Ok}
 use Rattle.std.specs.List.{AllByRecursion}
 use Rattle.chisel_claims.specs.Promises.{IsNearly, Keeps}
-use Rattle.chisel_ready.specs.Meaning.{AreClosed, IsReady}
+use Rattle.chisel_source.specs.Meaning.{AreClosed, IsReady}
 use Rattle.chisel_verify.specs.Answer.{Input}
 use Rattle.chisel_verify.specs.Lines.{Said, lines_of}
 

@@ -3,7 +3,7 @@
 ghost use Rattle.std.specs.Prelude.{◌≡◌, ◌∷◌, ◌++◌, [], IfOk, IfErr, if◌then◌else◌};
 ghost use Rattle.chisel_claims.specs.Verdicts.{IsLimited};
 ghost use Rattle.chisel_lines.specs.Answers.{answer_status, answer_text};
-ghost use Rattle.chisel_ready.specs.Meaning.{AreClosed, IsReady};
+ghost use Rattle.chisel_source.specs.Meaning.{AreClosed, IsReady};
 ghost use Rattle.chisel_verify.specs.Answer.{IsAnswer, asked};
 ghost use Rattle.chisel_verify.specs.Lines.{lines_of};
 ghost use Rattle.chisel_verify.specs.Printing.{Prints};
@@ -12,7 +12,7 @@ use crate::callees::{CalleeLines, callee_lines};
 use crate::own::own_lines;
 use crate::printed::{Printed, grade_on};
 use chisel_lines::{Answer, walk_refusal};
-use chisel_ready::Ready;
+use chisel_source::Ready;
 use rely_num::List;
 use rely_precond::PreFault;
 use rely_verdict::Verdict;
@@ -44,7 +44,7 @@ fn behind(before: Vec<u8>, wanted: bool, own: Printed) -> Result<Printed, AllocE
 }
 
 /// What is printed, unless a walk reaches a limit.
-#[tactic(auto, using(chisel_ready::proofs::Parts::inner_valid, chisel_ready::proofs::Parts::inner_on, chisel_ready::proofs::Parts::inner_closed, chisel_ready::proofs::Parts::own_valid, chisel_ready::proofs::Parts::own_on, chisel_ready::proofs::Parts::own_closed))]
+#[tactic(auto, using(chisel_source::proofs::Parts::inner_valid, chisel_source::proofs::Parts::inner_on, chisel_source::proofs::Parts::inner_closed, chisel_source::proofs::Parts::own_valid, chisel_source::proofs::Parts::own_on, chisel_source::proofs::Parts::own_closed))]
 fn printed(alloc: Global, ready: &Ready, wanted: bool) -> Result<Printed, PreFault>
     requires ready { IsReady ready.now }
     requires closed { AreClosed ready.now.linked }

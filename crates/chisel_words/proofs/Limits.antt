@@ -5,7 +5,7 @@ use Rattle.std.specs.Str.Parse.{digits_value}
 use Rattle.std.proofs.lemmas.Bool.{leb-true}
 use Rattle.rely_num.specs.Texts.{Bytes, same_text}
 use Rattle.chisel_words.specs.declared.search.Given.{Given}
-use Rattle.chisel_words.specs.declared.search.SearchOptions.{SearchOptions}
+use Rattle.chisel_options.specs.declared.strategy.Strategy.{Strategy}
 use Rattle.chisel_words.specs.Numbers.{at_least, number_between, number_up_to}
 use Rattle.chisel_words.specs.Search.{branch_of, completed, given_by, given_or, nothing_given, once, one_more, order_of, search_of, ◌>>=◌}
 use Rattle.chisel_words.specs.Words.{KeepsLimits, ToCheck, ToMigrate, ToOptimise, ToRewrite, ToRun, ToVerify, callees_of, certified_command, certified_form, command_form, form, is_plain, make_by, make_form, optimise_form, run_form, trials_of, verify_form}

@@ -1,12 +1,12 @@
 -- The options of a search: pairs of a word and its value, in any order, each at most once.
 use Rattle.std.specs.Prelude.{List, [], ◌∷◌, codes, Option, Some, None, option_map, if◌then◌else◌}
 use Rattle.rely_num.specs.Texts.{Bytes, same_text}
-use Rattle.chisel_words.specs.declared.search.Branch.{Branch}
-use Rattle.chisel_words.specs.declared.search.Branch.TheVariants.{First, Spread, Heavy}
+use Rattle.chisel_options.specs.declared.strategy.Branch.{Branch}
+use Rattle.chisel_options.specs.declared.strategy.Branch.TheVariants.{First, Spread, Heavy}
 use Rattle.chisel_words.specs.declared.search.Given.{Given}
-use Rattle.chisel_words.specs.declared.search.Order.{Order}
-use Rattle.chisel_words.specs.declared.search.Order.TheVariants.{Deep, Best}
-use Rattle.chisel_words.specs.declared.search.SearchOptions.{SearchOptions}
+use Rattle.chisel_options.specs.declared.strategy.Order.{Order}
+use Rattle.chisel_options.specs.declared.strategy.Order.TheVariants.{Deep, Best}
+use Rattle.chisel_options.specs.declared.strategy.Strategy.{Strategy}
 use Rattle.chisel_words.specs.Numbers.{number_between}
 
 abbrev pub branch_of : Bytes → Option Branch
@@ -57,8 +57,8 @@ given_or None otherwise = otherwise
 given_or (Some a) otherwise = a
 
 -- 100,000 nodes, the first decision and the deepest part, where nothing else is given
-abbrev pub completed : Given → SearchOptions
+abbrev pub completed : Given → Strategy
 completed g = record { nodes = given_or g.nodes 100000; branch = given_or g.branch First; order = given_or g.order Deep }
 
-abbrev pub search_of : List Bytes → Option SearchOptions
+abbrev pub search_of : List Bytes → Option Strategy
 search_of words = option_map completed (given_by words nothing_given)

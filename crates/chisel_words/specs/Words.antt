@@ -2,8 +2,8 @@
 use Rattle.std.specs.Prelude.{ℕ, Bool, true, false, not, ◌&&◌, ◌==◌, ◌≤◌, List, [], ◌∷◌, codes, Option, Some, None, option_map, if◌then◌else◌}
 use Rattle.std.specs.Option.{option_or}
 use Rattle.rely_num.specs.Texts.{Bytes, same_text}
-use Rattle.chisel_words.specs.declared.options.Trials.{Trials}
-use Rattle.chisel_words.specs.declared.search.SearchOptions.{SearchOptions}
+use Rattle.chisel_options.specs.declared.trials.Trials.{Trials}
+use Rattle.chisel_options.specs.declared.strategy.Strategy.{Strategy}
 use Rattle.chisel_words.specs.Numbers.{number_up_to, number_between}
 use Rattle.chisel_words.specs.Search.{search_of}
 
@@ -33,7 +33,7 @@ pub record Optimise : Type 0 where
   pub hardware : Bytes
   pub inputs : Bytes
   pub function : Bytes
-  pub search : SearchOptions
+  pub search : Strategy
 
 -- what the commands are asked that take a certificate
 pub record Certified : Type 0 where

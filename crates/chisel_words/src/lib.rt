@@ -7,6 +7,4 @@ mod options;
 mod search;
 mod words;
 
-pub use options::Trials;
-pub use search::{Branch, Order, SearchOptions};
 pub use words::{Asked, CertifiedWords, MakeWords, OptimiseWords, RunWords, VerifyWords, read};

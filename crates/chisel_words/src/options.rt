@@ -4,19 +4,11 @@ ghost use Rattle.std.specs.Prelude.{◌≡◌};
 ghost use Rattle.chisel_words.specs.Words.{callees_of, count_of, seed_of, trials_by, trials_of};
 
 use crate::number::number;
+use chisel_options::Trials;
 use chisel_outside::Arg;
 
 /// The last number of trials of one sample.
 const MOST_TRIALS: u64 = 1000;
-
-/// What is asked of trials.
-#[derive(Clone, Copy, Debug)]
-pub struct Trials {
-    /// The seed of the generator that all trials of the command share.
-    pub seed: u64,
-    /// How many trials follow the reliable run of each sample, at most 1000.
-    pub count: u64,
-}
 
 /// The options of `verify`: whether the lines of the functions that are called are wanted.
 pub(crate) fn callees(options: &[Arg]) -> Option<bool>

@@ -5,39 +5,11 @@ ghost use Rattle.chisel_words.specs.Search.{branch_of, given_by, one_more, order
 ghost use Rattle.chisel_words.specs.Numbers.{number_between};
 
 use crate::number::number_between;
+use chisel_options::{Branch, Order, Strategy};
 use chisel_outside::Arg;
 
 /// The last number of steps of a search.
 const MOST_NODES: u32 = 100_000;
-
-/// Which decision of a part a search branches on.
-#[derive(Clone, Copy, Debug, PartialEq, Eq)]
-pub enum Branch {
-    /// The first that is unfixed.
-    First,
-    /// The one whose energies lie furthest apart.
-    Spread,
-    /// The one with the greatest debits.
-    Heavy,
-}
-
-/// Which open part a search takes next.
-#[derive(Clone, Copy, Debug, PartialEq, Eq)]
-pub enum Order {
-    /// The last.
-    Deep,
-    /// The one with the least bound.
-    Best,
-}
-
-/// How a search goes.
-#[derive(Clone, Copy, Debug)]
-pub struct SearchOptions {
-    /// The last number of steps, from 1 to 100,000.
-    pub nodes: u32,
-    pub branch: Branch,
-    pub order: Order,
-}
 
 /// The options that were given so far.
 #[derive(Clone, Copy)]
@@ -112,7 +84,7 @@ fn given_by(given: Given, options: &[Arg]) -> Option<Given>
 }
 
 /// The options of `optimise`, in any order, each at most once.
-pub(crate) fn search_of(options: &[Arg]) -> Option<SearchOptions>
+pub(crate) fn search_of(options: &[Arg]) -> Option<Strategy>
     ensures { result ≡ search_of options.now }
 {
     let nothing = Given {
@@ -121,7 +93,7 @@ pub(crate) fn search_of(options: &[Arg]) -> Option<SearchOptions>
         order: None,
     };
     let given = given_by(nothing, options)?;
-    Some(SearchOptions {
+    Some(Strategy {
         nodes: given.nodes.unwrap_or(MOST_NODES),
         branch: given.branch.unwrap_or(Branch::First),
         order: given.order.unwrap_or(Order::Deep),

@@ -5,8 +5,9 @@ ghost use Rattle.chisel_words.specs.Words.{KeepsLimits, certified_command, certi
 ghost use Rattle.chisel_words.specs.Asked.{asked_by, to_certified};
 
 use crate::number::{number, number_between};
-use crate::options::{Trials, callees, trials_of};
-use crate::search::{SearchOptions, search_of};
+use crate::options::{callees, trials_of};
+use crate::search::search_of;
+use chisel_options::{Strategy, Trials};
 use chisel_outside::Arg;
 
 /// The last size of a made problem.
@@ -40,7 +41,7 @@ pub struct OptimiseWords<'w> {
     pub hardware: &'w str,
     pub inputs: &'w str,
     pub function: &'w str,
-    pub search: SearchOptions,
+    pub search: Strategy,
 }
 
 /// What the commands are asked that take a certificate.

@@ -1,5 +1,5 @@
 use Rattle.std.proofs.Common.{subst}
-use Rattle.chisel_choose.specs.Answers.{Certify, given}
+use Rattle.chisel_optimise.specs.Answers.{Certify, given}
 use Rattle.chisel_words.specs.Asked.{to_certified}
 use Rattle.chisel_top.specs.Findings.{Choosing}
 use Rattle.chisel_top.specs.Outcomes.{Final}

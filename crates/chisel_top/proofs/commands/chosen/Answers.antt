@@ -1,5 +1,5 @@
 use Rattle.std.proofs.Common.{subst}
-use Rattle.chisel_choose.specs.Answers.{IsAnswer, given, job_of}
+use Rattle.chisel_optimise.specs.Answers.{IsAnswer, given, job_of}
 use Rattle.chisel_lines.specs.Answers.{answer_status, answer_text}
 use Rattle.chisel_top.proofs.Reaching.{is_input}
 use Rattle.chisel_top.proofs.commands.chosen.Goals as goal

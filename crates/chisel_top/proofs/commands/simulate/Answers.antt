@@ -1,8 +1,8 @@
 use Rattle.std.proofs.Common.{refl, subst, sym}
 use Rattle.chisel_lines.specs.Answers.{answer_status, answer_text}
-use Rattle.chisel_ready.proofs.Parts.{own_valid}
-use Rattle.chisel_ready.specs.Meaning.{IsReady}
-use Rattle.chisel_runs.specs.Answer.{IsAnswer, asked}
+use Rattle.chisel_source.proofs.Parts.{own_valid}
+use Rattle.chisel_source.specs.Meaning.{IsReady}
+use Rattle.chisel_run.specs.Answer.{IsAnswer, asked}
 use Rattle.chisel_words.specs.Asked.{to_run}
 use Rattle.chisel_top.proofs.Reaching.{calls_stop, run_answers, run_input, run_stops, starts_stop}
 use Rattle.chisel_top.proofs.commands.simulate.Goals as goal

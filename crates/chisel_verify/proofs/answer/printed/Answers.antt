@@ -1,4 +1,4 @@
-use Rattle.chisel_ready.proofs.Parts.{own_valid}
+use Rattle.chisel_source.proofs.Parts.{own_valid}
 use Rattle.chisel_verify.proofs.LineByLine.{prints_behind, prints_one}
 use Rattle.chisel_verify.proofs.answer.printed.Goals as goal
 

@@ -1,5 +1,0 @@
-use Rattle.chisel_choose.proofs.Promising.{keeps_promise}
-use Rattle.chisel_choose.proofs.law.good_answers_hold.Goals as goal
-
-pub returns : goal.returns
-returns c = keeps_promise

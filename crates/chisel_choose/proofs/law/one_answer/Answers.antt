@@ -1,5 +1,0 @@
-use Rattle.chisel_choose.proofs.Once.{one_answer}
-use Rattle.chisel_choose.proofs.law.one_answer.Goals as goal
-
-pub returns : goal.returns
-returns c = one_answer

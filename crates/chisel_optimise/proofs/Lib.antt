@@ -1,0 +1,15 @@
+pub mod Answering
+pub mod Best
+pub mod Early
+pub mod Finding
+pub mod Halting
+pub mod Migrated
+pub mod Once
+pub mod Passing
+pub mod Predicates
+pub mod Promising
+pub mod Rows
+pub mod Sampling
+pub mod Short
+pub mod Spending
+pub mod Within

@@ -1,0 +1,11 @@
+pub mod Answers
+pub mod Claims
+pub mod Halts
+pub mod Lines
+pub mod Migrated
+pub mod Pooled
+pub mod Printing
+pub mod Promises
+pub mod Searches
+pub mod Sound
+pub mod Tables

@@ -1,7 +1,0 @@
-use Rattle.std.proofs.Common.{◌≡◌}
-use Rattle.chisel_table.specs.Sums.{list_to}
-use Rattle.chisel_orders.specs.Branching.{size}
-use Rattle.chisel_orders.proofs.branching.sizes.Given as goal
-
-abbrev pub invariant-loop-d : goal.invariant-loop-d
-invariant-loop-d l = l.sizes.items ≡ list_to l.d (size l.t l.branch)

@@ -1,6 +1,0 @@
-use Rattle.std.proofs.Common.{◌≡◌, ◌-◌}
-use Rattle.chisel_orders.specs.Picking.{least_to}
-use Rattle.chisel_orders.proofs.picking.least.Given as goal
-
-abbrev pub invariant-loop-k : goal.invariant-loop-k
-invariant-loop-k l = l.least ≡ least_to l.parts (l.k - 1)

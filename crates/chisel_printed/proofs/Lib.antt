@@ -1,5 +1,0 @@
-pub mod Spending
-pub mod Rows
-pub mod Within
-pub mod Short
-pub mod Migrated

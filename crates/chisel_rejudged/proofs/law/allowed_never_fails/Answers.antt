@@ -1,5 +1,0 @@
-use Rattle.chisel_rejudged.proofs.Reported.{allowed_never_fails}
-use Rattle.chisel_rejudged.proofs.law.allowed_never_fails.Goals as goal
-
-pub returns : goal.returns
-returns c = allowed_never_fails

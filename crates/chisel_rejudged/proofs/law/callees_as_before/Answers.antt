@@ -1,5 +1,0 @@
-use Rattle.chisel_rejudged.proofs.Reported.{callees_as_before}
-use Rattle.chisel_rejudged.proofs.law.callees_as_before.Goals as goal
-
-pub returns : goal.returns
-returns c = callees_as_before

@@ -1,5 +1,0 @@
-use Rattle.chisel_reports.proofs.Reported.{reported_as_chosen}
-use Rattle.chisel_reports.proofs.law.reported_as_chosen.Goals as goal
-
-pub returns : goal.returns
-returns c = reported_as_chosen

@@ -1,7 +1,0 @@
-pub mod Cuts
-pub mod Fronts
-pub mod Kernels
-pub mod Lexemes
-pub mod MarkTokens
-pub mod Names
-pub mod Reread

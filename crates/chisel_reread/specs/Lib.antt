@@ -1,4 +1,0 @@
-pub mod Kernels
-pub mod Lexemes
-pub mod Marks
-pub mod Tokens
