@@ -6,3 +6,4 @@ pub mod Reasons
 pub mod Refusals
 pub mod SampleLines
 pub mod Statuses
+pub mod Versions

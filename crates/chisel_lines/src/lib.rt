@@ -10,6 +10,7 @@ mod reason;
 mod refusal;
 mod sample;
 mod status;
+mod version;
 
 pub use answer::Answer;
 pub use claim::{callee_line, line};
@@ -19,3 +20,4 @@ pub use reason::{key_text, lack_text, limit_text, reason_text, why_text};
 pub use refusal::{Limit, Reason, Refusal, walk_refusal};
 pub use sample::{SampleEnd, energy_line, sample_lines};
 pub use status::{Grade, Status};
+pub use version::version_line;

@@ -6,8 +6,6 @@ mod numbers;
 #[cfg(test)]
 mod outside;
 #[cfg(test)]
-mod predicates;
-#[cfg(test)]
 mod sources;
 #[cfg(test)]
 mod trial;

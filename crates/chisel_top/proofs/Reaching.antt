@@ -14,8 +14,11 @@ use Rattle.chisel_files.proofs.Opening.{Exactly, Formed, closed_exactly, closed_
 use Rattle.chisel_files.proofs.Working.{works_done, works_ends, works_goes, works_last, works_same, works_stop, works_then}
 use Rattle.chisel_lines.specs.Faults.{NoForm, Stop}
 use Rattle.chisel_lines.specs.declared.answer.Answer.{Answer}
+use Rattle.chisel_lines.specs.declared.answer.Answer.TheVariants as answer
 use Rattle.chisel_lines.specs.declared.fault.Fault.{Fault}
 use Rattle.chisel_lines.specs.declared.fault.Fault.TheVariants as fault
+use Rattle.chisel_lines.specs.declared.status.Grade.TheVariants as grade
+use Rattle.chisel_lines.specs.Versions.{version_line}
 use Rattle.chisel_outside.specs.Outside.{Log}
 use Rattle.std.specs.List.{All}
 use Rattle.rely_kernel.specs.Bound.{IsStart}
@@ -29,9 +32,9 @@ use Rattle.std.specs.Prelude.{IfSome, option_map}
 use Rattle.chisel_words.specs.declared.words.Asked.{Asked}
 use Rattle.chisel_words.specs.Asked.{asked_by}
 use Rattle.chisel_options.specs.declared.trials.Trials.{Trials}
-use Rattle.chisel_top.specs.Findings.{Choosing, Finding, Judging, Running, certificate_of, certified_work, certifying, choosing, inputs_of, judging, make_work, optimise_work, running, running_from, unbarred, unless_barred, work_of}
+use Rattle.chisel_top.specs.Findings.{Choosing, Finding, Introducing, Judging, Running, certificate_of, certified_work, certifying, choosing, inputs_of, judging, make_work, optimise_work, running, running_from, unbarred, unless_barred, work_of}
 use Rattle.chisel_top.specs.Outcomes.{Final, Reaches}
-use Rattle.chisel_words.specs.Words.{Certified, Command, KeepsLimits, Make, Optimise, Simulate, ToCheck, ToMake, ToMigrate, ToOptimise, ToRewrite, ToRun, ToVerify, Verify, certified_files, files_of}
+use Rattle.chisel_words.specs.Words.{Certified, Command, KeepsLimits, Make, Optimise, Simulate, ToCheck, ToMake, ToMigrate, ToOptimise, ToRewrite, ToRun, ToVerify, ToVersion, Verify, certified_files, files_of}
 
 -- a fault of the work ends it
 pub reaches_stop : (held : Bytes → Option Content) (old new : Log) (w : Work Finding) (e : Fault) → Works {A = Finding} held old new w (Err e) → Reaches held old new w (Err e)
@@ -66,6 +69,7 @@ command_exactly (ToCheck w) = certified_exactly certificate.Check w
 command_exactly (ToRewrite w) = certified_exactly certificate.Rewrite w
 command_exactly (ToMigrate w) = certified_exactly certificate.Migrate w
 command_exactly (ToMake m) = exactly_then [] [] (Done (made_problem m.size m.number)) (choosing choose.Measure) tt (λ p. tt)
+command_exactly ToVersion = tt
 
 pub opens_files : (o : Option Command) → OpensOf (files_of o) (work_of o)
 opens_files None = tt
@@ -100,6 +104,7 @@ command_formed (ToRewrite w) = certified_formed certificate.Rewrite w
 command_formed (ToMigrate w) = certified_formed certificate.Migrate w
 command_formed (ToMake m) =
     formed_then (Done (made_problem m.size m.number)) (choosing choose.Measure) (made_formed m.size m.number) (λ p. formed_done (Choosing (choose.given p.ready p.starts choose.Measure)))
+command_formed ToVersion = formed_done Introducing
 
 -- ---- the command `verify`
 
@@ -215,3 +220,15 @@ module _ (held : Bytes → Option Content) (log : Log) (m : Make) where
       let f = Choosing (choose.given p.ready p.starts choose.Measure) in
       reaches_answer held log log (make_work m) f r
       (works_goes held log log (made_problem m.size m.number) (choosing choose.Measure) p (Ok f) comes (works_done held log (Ok f) (Ok f) refl)) final
+
+-- ---- the command `version`
+
+module _ (held : Bytes → Option Content) (log : Log) where
+  version_reaches : (r : Result Answer Fault) → Final (Ok Introducing) r → Reaches held log log (work_of (Some ToVersion)) r
+  version_reaches r final = reaches_answer held log log (work_of (Some ToVersion)) Introducing r (works_done held log (Ok Introducing) (Ok Introducing) refl) final
+
+  pub version_stops : Reaches held log log (work_of (Some ToVersion)) (Err fault.Memory)
+  version_stops = version_reaches (Err fault.Memory) refl
+
+  pub version_answers : (line : List ℕ) → line ≡ version_line → Reaches held log log (work_of (Some ToVersion)) (Ok (answer.Text line grade.Good))
+  version_answers line e = version_reaches (Ok (answer.Text line grade.Good)) ((e, refl), tt)

@@ -121,6 +121,7 @@ sound_promise : (f : Finding) → IsSound f → IsOfSource f → Promise (Ok f)
 sound_promise (Judging i) sound source = keeps_promise i sound
 sound_promise (Running i) sound source = tt
 sound_promise (Choosing i) sound source = (keeps_choice i sound, keeps_rewriting i sound source)
+sound_promise Introducing sound source = tt
 
 -- the status and the text answer it, and its lines keep what they promise
 abbrev Told : Result Finding Stop → Bytes → Status → Type 0

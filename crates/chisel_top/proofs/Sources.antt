@@ -24,7 +24,7 @@ use Rattle.chisel_source.specs.declared.ready.Meant.{Meant}
 use Rattle.chisel_source.specs.declared.ready.Ready.{Ready}
 use Rattle.chisel_run.specs.Answer as runs
 use Rattle.chisel_verify.specs.Answer as verify
-use Rattle.chisel_words.specs.Words.{Certified, Command, ToCheck, ToMake, ToMigrate, ToOptimise, ToRewrite, ToRun, ToVerify, form}
+use Rattle.chisel_words.specs.Words.{Certified, Command, ToCheck, ToMake, ToMigrate, ToOptimise, ToRewrite, ToRun, ToVerify, ToVersion, form}
 use Rattle.chisel_top.specs.Findings.{Choosing, Finding, Judging, Running, certificate_of, certified_work, certifying, choosing, finding, inputs_of, judging, running, running_from, unbarred, work_of}
 use Rattle.chisel_top.specs.Rewriting.{IsMeaning}
 
@@ -127,6 +127,7 @@ abbrev pub IsOfSource : Finding → Type 0
 IsOfSource (Judging i) = Unit {0}
 IsOfSource (Running i) = Unit {0}
 IsOfSource (Choosing i) = IsRead i.job i.ready
+IsOfSource Introducing = Unit {0}
 
 certified_yields : (what : What) (w : Certified) → Yields IsOfSource (certified_work what w)
 certified_yields what w =
@@ -152,6 +153,7 @@ command_yields (ToMigrate w) = certified_yields certificate.Migrate w
 command_yields (ToMake m) =
     yields_then (λ p. Unit {0}) IsOfSource (Done (made_problem m.size m.number)) (choosing choose.Measure) (yields_any (Done (made_problem m.size m.number))) (λ p any.
     yields_done IsOfSource (Choosing (choose.given p.ready p.starts choose.Measure)) tt)
+command_yields ToVersion = yields_done IsOfSource Introducing tt
 
 pub of_source : (words : List Bytes) (got : List Content) (f : Finding) → finding words got ≡ Ok f → IsOfSource f
 of_source words got f e = by_form (form words) e

@@ -15,6 +15,8 @@ use Rattle.chisel_lines.specs.Faults.{Both, IsStop, NoForm, Refused, Stop}
 use Rattle.chisel_lines.specs.declared.refusal.Reason.TheVariants as reason
 use Rattle.chisel_lines.specs.declared.refusal.Refusal.TheVariants.{Source}
 use Rattle.chisel_lines.specs.declared.status.Status.{Status}
+use Rattle.chisel_lines.specs.declared.status.Status.TheVariants as status
+use Rattle.chisel_lines.specs.Versions.{version_line}
 use Rattle.chisel_source.specs.declared.ready.Ready.{Ready}
 use Rattle.chisel_run.specs.Answer as runs
 use Rattle.chisel_run.specs.Calls.{barred_call}
@@ -22,7 +24,7 @@ use Rattle.chisel_verify.specs.Answer as verify
 use Rattle.chisel_verify.specs.Promises as verify_promises
 use Rattle.chisel_top.specs.Rewriting as rewriting
 use Rattle.chisel_options.specs.declared.trials.Trials.{Trials}
-use Rattle.chisel_words.specs.Words.{Certified, Command, Make, Optimise, Simulate, ToCheck, ToMake, ToMigrate, ToOptimise, ToRewrite, ToRun, ToVerify, Verify, form}
+use Rattle.chisel_words.specs.Words.{Certified, Command, Make, Optimise, Simulate, ToCheck, ToMake, ToMigrate, ToOptimise, ToRewrite, ToRun, ToVerify, ToVersion, Verify, form}
 
 -- what each family is asked
 pub data Finding : Type 0 where
@@ -32,6 +34,8 @@ pub data Finding : Type 0 where
   Running : runs.Input → Finding
   -- its kinds and memories are chosen
   Choosing : choose.Input → Finding
+  -- the program says its name and its version
+  Introducing : Finding
 
 -- ---- the order of work
 
@@ -84,6 +88,7 @@ work_of (Some (ToRewrite w)) = certified_work certificate.Rewrite w
 work_of (Some (ToMigrate w)) = certified_work certificate.Migrate w
 work_of (Some (ToRun w)) = closed_work w.source w.hardware w.function then running w
 work_of (Some (ToMake w)) = make_work w
+work_of (Some ToVersion) = Done (Ok Introducing)
 
 -- what is found in contents of the files that the words name, in order
 abbrev pub finding : List Bytes → List Content → Result Finding Stop
@@ -100,6 +105,7 @@ abbrev pub IsAnswer : Result Finding Stop → Bytes → Status → Type 0
 IsAnswer (Ok (Judging i)) text s = verify.IsAnswer i text s
 IsAnswer (Ok (Running i)) text s = runs.IsAnswer i text s
 IsAnswer (Ok (Choosing i)) text s = choose.IsAnswer i text s
+IsAnswer (Ok Introducing) text s = Both text s version_line status.Done
 IsAnswer (Err stop) text s = IsStop stop text s
 
 -- there is at most one
@@ -111,10 +117,12 @@ abbrev pub IsSound : Finding → Type 0
 IsSound (Judging i) = verify_promises.IsInput i
 IsSound (Running i) = runs.IsInput i
 IsSound (Choosing i) = choose_promises.IsInput i
+IsSound Introducing = Unit {0}
 
 -- what the lines of its answer promise of runs on unreliable hardware
 abbrev pub Promise : Result Finding Stop → Type 0
 Promise (Ok (Judging i)) = verify_promises.Promise i
 Promise (Ok (Running i)) = Unit {0}
 Promise (Ok (Choosing i)) = choose_promises.Promise i × rewriting.Promise i
+Promise (Ok Introducing) = Unit {0}
 Promise (Err stop) = Unit {0}

@@ -6,7 +6,7 @@ ghost use Rattle.chisel_outside.specs.Outside.{Log};
 ghost use Rattle.chisel_optimise.specs.Answers.{given, job_of};
 ghost use Rattle.chisel_optimise.specs.Promises.{IsJob};
 ghost use Rattle.chisel_words.specs.Asked.{to_certified, to_make, to_optimise, to_run, to_verify};
-ghost use Rattle.chisel_words.specs.Words.{ToMake, ToOptimise, ToRun, ToVerify};
+ghost use Rattle.chisel_words.specs.Words.{ToMake, ToOptimise, ToRun, ToVerify, ToVersion};
 ghost use Rattle.chisel_files.specs.Choosing.{IsProblem};
 ghost use Rattle.chisel_files.specs.Works.{Comes, Content};
 ghost use Rattle.chisel_run.specs.Calls.{barred_call};
@@ -14,13 +14,14 @@ ghost use Rattle.chisel_top.specs.Findings.{Choosing, certified_work, unbarred, 
 ghost use Rattle.chisel_top.specs.Outcomes.{Final, Reaches};
 
 use chisel_files::{Names, Problem, certificate, closed_ready, made, read_problem, starts};
-use chisel_lines::{Answer, Fault, Reason, Refusal};
+use chisel_lines::{Answer, Fault, Grade, Reason, Refusal, version_line};
 use chisel_optimise::{Asked, Task, choose};
 use chisel_options::Trials;
 use chisel_outside::Shelf;
 use chisel_run::barred_call;
 use chisel_source::Ready;
 use chisel_words::{CertifiedWords, MakeWords, OptimiseWords, RunWords, VerifyWords};
+use rely_num::List;
 use std::alloc::Global;
 
 /// The command `verify`.
@@ -154,4 +155,15 @@ pub(crate) fn measure<'w>(alloc: Global, words: MakeWords) -> Result<Answer, Fau
         Err(fault) => return Err(fault),
     };
     chosen(alloc, &problem, Task::Measure)
+}
+
+/// The command `version`, which fetches nothing.
+#[tactic(auto, using(crate::proofs::Reaching::version_answers, crate::proofs::Reaching::version_stops))]
+pub(crate) fn introduce<'w>(alloc: Global) -> Result<Answer, Fault<'w>>
+    ensures { (held : Bytes → Option Content) (log : Log) → Reaches held log log (work_of (Some ToVersion)) result }
+{
+    match version_line(alloc) {
+        Ok(line) => Ok(Answer::Text(List::from_vec(line), Grade::Good)),
+        Err(_) => Err(Fault::Memory),
+    }
 }

@@ -11,7 +11,7 @@ ghost use Rattle.chisel_top.specs.Promises.{Counts, EndsWithoutForm, FailedLast,
 ghost use Rattle.chisel_words.specs.Words.{form};
 
 use crate::Status;
-use crate::commands::{certify, measure, optimise, simulate, verify};
+use crate::commands::{certify, introduce, measure, optimise, simulate, verify};
 use crate::tell::tell;
 use chisel_lines::{Answer, Fault};
 use chisel_outside::{Arg, Shelf, Sink};
@@ -47,6 +47,7 @@ fn outcome<'w, F: Shelf>(
         ),
         Some(Asked::Run(words)) => simulate(alloc, words, shelf),
         Some(Asked::Make(words)) => measure(alloc, words),
+        Some(Asked::Version) => introduce(alloc),
     }
 }
 

@@ -8,7 +8,7 @@ use Rattle.chisel_words.specs.declared.search.Given.{Given}
 use Rattle.chisel_options.specs.declared.strategy.Strategy.{Strategy}
 use Rattle.chisel_words.specs.Numbers.{at_least, number_between, number_up_to}
 use Rattle.chisel_words.specs.Search.{branch_of, completed, given_by, given_or, nothing_given, once, one_more, order_of, search_of, ◌>>=◌}
-use Rattle.chisel_words.specs.Words.{KeepsLimits, ToCheck, ToMigrate, ToOptimise, ToRewrite, ToRun, ToVerify, callees_of, certified_command, certified_form, command_form, form, is_plain, make_by, make_form, optimise_form, run_form, trials_of, verify_form}
+use Rattle.chisel_words.specs.Words.{KeepsLimits, ToCheck, ToMigrate, ToOptimise, ToRewrite, ToRun, ToVerify, callees_of, certified_command, certified_form, command_form, form, is_plain, make_by, make_form, optimise_form, run_form, trials_of, verify_form, version_form}
 
 -- ---- values that may be there
 
@@ -78,7 +78,7 @@ nodes_few : (n : Option ℕ) → IfSome n (λ m. (1 ≤ m) × (m ≤ 100000)) �
 nodes_few None h = (omega arith, omega arith)
 nodes_few (Some n) h = h
 
-abbrev IsFew : SearchOptions → Type 0
+abbrev IsFew : Strategy → Type 0
 IsFew s = (1 ≤ s.nodes) × (s.nodes ≤ 100000)
 
 completed_few : (o : Option Given) → IfSome o HasFew → IfSome (option_map completed o) IsFew
@@ -127,6 +127,10 @@ make_keeps (a ∷ []) = tt
 make_keeps (size ∷ number ∷ []) = make_keeps_by (number_between 1 100 size) (number_up_to 18446744073709551615 number) (between 1 100 size)
 make_keeps (a ∷ b ∷ c ∷ more) = tt
 
+version_keeps : (words : List Bytes) → IfSome (version_form words) KeepsLimits
+version_keeps [] = tt
+version_keeps (word ∷ words) = tt
+
 certified_keeps : (command : Bytes) (words : List Bytes) → IfSome (certified_command command words) KeepsLimits
 certified_keeps command words =
     of_two KeepsLimits (same_text command (codes "check")) _ _ (of_map KeepsLimits ToCheck (certified_form words) (of_all _ (certified_form words) (λ c. tt)))
@@ -138,7 +142,9 @@ command_keeps command words =
     of_two KeepsLimits (same_text command (codes "verify")) _ _ (verify_keeps words)
     (of_two KeepsLimits (same_text command (codes "optimise")) _ _ (optimise_keeps words)
     (of_two KeepsLimits (same_text command (codes "run")) _ _ (run_keeps words)
-    (of_two KeepsLimits (same_text command (codes "make")) _ _ (make_keeps words) (certified_keeps command words))))
+    (of_two KeepsLimits (same_text command (codes "make")) _ _ (make_keeps words)
+    (of_two KeepsLimits (same_text command (codes "version")) _ _ (version_keeps words)
+    (of_two KeepsLimits (same_text command (codes "--version")) _ _ (version_keeps words) (certified_keeps command words))))))
 
 pub form_keeps : (words : List Bytes) → IfSome (form words) KeepsLimits
 form_keeps [] = tt

@@ -6,7 +6,7 @@ use Rattle.chisel_words.specs.declared.words.MakeWords.{MakeWords}
 use Rattle.chisel_words.specs.declared.words.OptimiseWords.{OptimiseWords}
 use Rattle.chisel_words.specs.declared.words.RunWords.{RunWords}
 use Rattle.chisel_words.specs.declared.words.VerifyWords.{VerifyWords}
-use Rattle.chisel_words.specs.Words.{Command, ToVerify, ToOptimise, ToCheck, ToRewrite, ToMigrate, ToRun, ToMake, Verify, Optimise, Certified, Simulate, Make}
+use Rattle.chisel_words.specs.Words.{Command, ToVerify, ToOptimise, ToCheck, ToRewrite, ToMigrate, ToRun, ToMake, ToVersion, Verify, Optimise, Certified, Simulate, Make}
 
 abbrev pub to_verify : VerifyWords → Verify
 to_verify w = record { source = w.source.now; hardware = w.hardware.now; function = w.function.now; callees = w.callees }
@@ -37,3 +37,4 @@ asked_by (asked.Rewrite w) = ToRewrite (to_certified w)
 asked_by (asked.Migrate w) = ToMigrate (to_certified w)
 asked_by (asked.Run w) = ToRun (to_run w)
 asked_by (asked.Make w) = ToMake (to_make w)
+asked_by asked.Version = ToVersion

@@ -56,6 +56,7 @@ pub data Command : Type 0 where
   ToMigrate : Certified → Command
   ToRun : Simulate → Command
   ToMake : Make → Command
+  ToVersion : Command
 
 -- ---- options
 
@@ -126,6 +127,11 @@ abbrev pub make_form : List Bytes → Option Command
 make_form (size ∷ number ∷ []) = make_by (number_between 1 100 size) (number_up_to 18446744073709551615 number)
 make_form _ = None
 
+-- nothing behind the command
+abbrev pub version_form : List Bytes → Option Command
+version_form [] = Some ToVersion
+version_form (word ∷ words) = None
+
 -- the commands that take a certificate
 abbrev pub certified_command : Bytes → List Bytes → Option Command
 certified_command command words =
@@ -140,6 +146,8 @@ command_form command words =
     else if same_text command (codes "optimise") then optimise_form words
     else if same_text command (codes "run") then run_form words
     else if same_text command (codes "make") then make_form words
+    else if same_text command (codes "version") then version_form words
+    else if same_text command (codes "--version") then version_form words
     else certified_command command words
 
 abbrev pub form : List Bytes → Option Command
@@ -155,6 +163,7 @@ KeepsLimits (ToRewrite c) = Unit {0}
 KeepsLimits (ToMigrate c) = Unit {0}
 KeepsLimits (ToRun r) = Unit {0}
 KeepsLimits (ToMake m) = (1 ≤ m.size) × (m.size ≤ 100)
+KeepsLimits ToVersion = Unit {0}
 
 -- the files of the commands that take a certificate
 abbrev pub certified_files : Certified → List Bytes
@@ -170,3 +179,4 @@ files_of (Some (ToRewrite c)) = certified_files c
 files_of (Some (ToMigrate c)) = certified_files c
 files_of (Some (ToRun r)) = r.source ∷ r.hardware ∷ r.inputs ∷ []
 files_of (Some (ToMake m)) = []
+files_of (Some ToVersion) = []

@@ -1,7 +1,7 @@
 //! The words of a command line.
 
 ghost use Rattle.std.specs.Prelude.{◌≡◌, IfSome, option_map, map};
-ghost use Rattle.chisel_words.specs.Words.{KeepsLimits, certified_command, certified_form, command_form, form, is_plain, make_form, optimise_form, run_form, verify_form};
+ghost use Rattle.chisel_words.specs.Words.{KeepsLimits, certified_command, certified_form, command_form, form, is_plain, make_form, optimise_form, run_form, verify_form, version_form};
 ghost use Rattle.chisel_words.specs.Asked.{asked_by, to_certified};
 
 use crate::number::{number, number_between};
@@ -72,6 +72,8 @@ pub enum Asked<'w> {
     Migrate(CertifiedWords<'w>),
     Run(RunWords<'w>),
     Make(MakeWords),
+    /// The name of the program and its version.
+    Version,
 }
 
 fn is_plain(word: &str) -> bool
@@ -193,6 +195,16 @@ fn make_words(words: &[Arg]) -> Option<Asked<'_>>
     Some(Asked::Make(MakeWords { size, number }))
 }
 
+fn version_words(words: &[Arg]) -> Option<Asked<'_>>
+    ensures { option_map asked_by result ≡ version_form words.now }
+{
+    if words.is_empty() {
+        Some(Asked::Version)
+    } else {
+        None
+    }
+}
+
 /// The commands that take a certificate.
 fn certified_command<'w>(command: &str, words: &'w [Arg]) -> Option<Asked<'w>>
     ensures { option_map asked_by result ≡ certified_command command.now words.now }
@@ -213,6 +225,8 @@ fn command_words<'w>(command: &str, words: &'w [Arg]) -> Option<Asked<'w>>
         "optimise" => optimise_words(words),
         "run" => run_words(words),
         "make" => make_words(words),
+        "version" => version_words(words),
+        "--version" => version_words(words),
         _ => certified_command(command, words),
     }
 }

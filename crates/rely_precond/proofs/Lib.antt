@@ -1,4 +1,3 @@
-mod Examples
 pub mod Bumps
 pub mod Carried
 pub mod Claims

@@ -1,3 +1,0 @@
-pub mod Choices
-pub mod Claimed
-pub mod Sampling
