@@ -8,7 +8,7 @@ use Rattle.chisel_optimise.specs.declared.certified.Asked.TheVariants as certifi
 use Rattle.chisel_files.specs.declared.choosing.Problem.{Problem}
 use Rattle.chisel_files.specs.Choosing.{IsProblem, certificate_work, made_problem, problem_work}
 use Rattle.chisel_files.proofs.Problems.{certificate_exactly, certificate_formed, made_formed, problem_exactly, problem_formed}
-use Rattle.chisel_files.specs.Works.{Comes, Content, Done, OpensOf, Work, Works}
+use Rattle.chisel_files.specs.Works.{Comes, Content, Done, OpensOf, Work, Works, ◌then◌}
 use Rattle.chisel_files.specs.Front.{closed_work, starts_work}
 use Rattle.chisel_files.proofs.Opening.{Exactly, Formed, closed_exactly, closed_formed, exactly_opens, exactly_then, formed_then, starts_exactly, starts_formed}
 use Rattle.chisel_files.proofs.Working.{works_done, works_ends, works_goes, works_last, works_same, works_stop, works_then}
@@ -17,6 +17,8 @@ use Rattle.chisel_lines.specs.declared.answer.Answer.{Answer}
 use Rattle.chisel_lines.specs.declared.answer.Answer.TheVariants as answer
 use Rattle.chisel_lines.specs.declared.fault.Fault.{Fault}
 use Rattle.chisel_lines.specs.declared.fault.Fault.TheVariants as fault
+use Rattle.chisel_lines.specs.declared.refusal.Reason.TheVariants as reason
+use Rattle.chisel_lines.specs.declared.refusal.Refusal.TheVariants as refusal
 use Rattle.chisel_lines.specs.declared.status.Grade.TheVariants as grade
 use Rattle.chisel_lines.specs.Versions.{version_line}
 use Rattle.chisel_outside.specs.Outside.{Log}
@@ -43,6 +45,15 @@ reaches_stop held old new w e works = record { came = Err e; works = works; fina
 -- and else the family answers, or it wants memory
 pub reaches_answer : (held : Bytes → Option Content) (old new : Log) (w : Work Finding) (f : Finding) (r : Result Answer Fault) → Works held old new w (Ok f) → Final (Ok f) r → Reaches held old new w r
 reaches_answer held old new w f r works final = record { came = Ok f; works = works; final = final }
+
+-- what is reached behind a step that is done
+pub reaches_then : {A : Type 0} (held now : Bytes → Option Content) (old mid new : Log) (w : Work A) (f : A → Work Finding) (a : A) (r : Result Answer Fault)
+    → ((n : Bytes) → now n ≡ held n) → Works held old mid w (Ok a) → Reaches now mid new (f a) r → Reaches held old new (w then f) r
+reaches_then held now old mid new w f a r same works x = record {
+  came = x.came;
+  works = works_then held old mid new w f a x.came works (works_same held now mid new (f a) x.came same x.works);
+  final = x.final;
+}
 
 -- words of no form
 pub none_reaches : (held : Bytes → Option Content) (log : Log) (v : Option Command) → None ≡ v → Reaches held log log (work_of v) (Err fault.Words)
@@ -119,46 +130,45 @@ module _ (held : Bytes → Option Content) (old new : Log) (v : Verify) where
 
 -- ---- the command `run`
 
-module _ (held : Bytes → Option Content) (old : Log) (w : Simulate) where
-  pub run_stops : (new : Log) (e : Fault) → Works held old new (closed_work w.source w.hardware w.function) (Err e) → Reaches held old new (work_of (Some (ToRun w))) (Err e)
-  run_stops new e works = reaches_stop held old new (work_of (Some (ToRun w))) e (works_stop held old new (closed_work w.source w.hardware w.function) (running w) e works)
+module _ (held : Bytes → Option Content) (old new : Log) (w : Simulate) where
+  pub run_stops : (e : Fault) → Works held old new (closed_work w.source w.hardware w.function) (Err e) → Reaches held old new (work_of (Some (ToRun w))) (Err e)
+  run_stops e works = reaches_stop held old new (work_of (Some (ToRun w))) e (works_stop held old new (closed_work w.source w.hardware w.function) (running w) e works)
 
-  module _ (mid : Log) (ready : Ready) (read : Works held old mid (closed_work w.source w.hardware w.function) (Ok ready)) where
-    after_ready : (new : Log) (r : Result Finding Fault)
-        → Works held mid new (running w ready) r
-        → Works held old new (work_of (Some (ToRun w))) r
-    after_ready new r works = works_then held old mid new (closed_work w.source w.hardware w.function) (running w) ready r read works
+  module _ (ready : Ready) where
+    pub bar_stops : (place : ℕ) → old ≡ new → barred_call w.trials ready.linked.kernel ≡ Some place
+        → Reaches held old new (running w ready) (Err (fault.Refused (refusal.Source reason.Trials place)))
+    bar_stops place same barred =
+        let e = fault.Refused (refusal.Source reason.Trials place) in
+        subst (λ log. Reaches held old log (running w ready) (Err e)) same
+        (reaches_stop held old old (running w ready) e (works_ends held old (unbarred w.trials ready) (inputs_of w) e (ap (λ o. unless_barred o ready) barred)))
 
-    pub calls_stop : (e : Fault) → Comes {A = Ready} (unbarred w.trials ready) (Err e) → Reaches held old mid (work_of (Some (ToRun w))) (Err e)
-    calls_stop e comes = reaches_stop held old mid (work_of (Some (ToRun w))) e (after_ready mid (Err e) (works_ends held mid (unbarred w.trials ready) (inputs_of w) e comes))
+    pub bar_passes : (r : Result Answer Fault) → barred_call w.trials ready.linked.kernel ≡ None → Reaches held old new (inputs_of w ready) r → Reaches held old new (running w ready) r
+    bar_passes r none x = record {
+      came = x.came;
+      works = works_goes held old new (unbarred w.trials ready) (inputs_of w) ready x.came (ap (λ o. unless_barred o ready) none) x.works;
+      final = x.final;
+    }
 
-    module _ (now : Bytes → Option Content) (new : Log) (u : Ready) (same : (n : Bytes) → now n ≡ held n) (comes : unbarred w.trials ready ≡ Ok u) where
-      after_bar : (r : Result Finding Fault) → Works held mid new (inputs_of w u) r → Works held old new (work_of (Some (ToRun w))) r
-      after_bar r works = after_ready new r (works_goes held mid new (unbarred w.trials ready) (inputs_of w) u r comes works)
+    pub starts_stop : (e : Fault) → Works held old new (starts_work ready.linked.kernel w.inputs) (Err e) → Reaches held old new (inputs_of w ready) (Err e)
+    starts_stop e works = reaches_stop held old new (inputs_of w ready) e (works_stop held old new (starts_work ready.linked.kernel w.inputs) (running_from w ready) e works)
 
-      pub starts_stop : (e : Fault) → Works now mid new (starts_work u.linked.kernel w.inputs) (Err e) → Reaches held old new (work_of (Some (ToRun w))) (Err e)
-      starts_stop e works =
-          reaches_stop held old new (work_of (Some (ToRun w))) e
-          (after_bar (Err e) (works_stop held mid new (starts_work u.linked.kernel w.inputs) (running_from w u) e (works_same held now mid new (starts_work u.linked.kernel w.inputs) (Err e) same works)))
-
-      pub run_answers : (starts : List Store) (r : Result Answer Fault) → Works now mid new (starts_work u.linked.kernel w.inputs) (Ok starts) → Final (Ok (Running (runs.asked u w.trials starts))) r → Reaches held old new (work_of (Some (ToRun w))) r
-      run_answers starts r works final =
-          reaches_answer held old new (work_of (Some (ToRun w))) (Running (runs.asked u w.trials starts)) r
-          (after_bar (Ok (Running (runs.asked u w.trials starts)))
-          (works_last held mid new (starts_work u.linked.kernel w.inputs) (running_from w u) starts (Ok (Running (runs.asked u w.trials starts))) (Ok (Running (runs.asked u w.trials starts)))
-          (works_same held now mid new (starts_work u.linked.kernel w.inputs) (Ok starts) same works) refl refl)) final
+    pub run_answers : (starts : List Store) (r : Result Answer Fault) → Works held old new (starts_work ready.linked.kernel w.inputs) (Ok starts)
+        → Final (Ok (Running (runs.asked ready w.trials starts))) r → Reaches held old new (inputs_of w ready) r
+    run_answers starts r works final =
+        let f = Running (runs.asked ready w.trials starts) in
+        reaches_answer held old new (inputs_of w ready) f r
+        (works_last held old new (starts_work ready.linked.kernel w.inputs) (running_from w ready) starts (Ok f) (Ok f) works refl refl) final
 
 -- what `run` asks of its family
-pub run_input : (ready u : Ready) (trials : Trials) (starts : List Store) → IsReady ready → AreClosed ready.linked → u ≡ ready → barred_call trials ready.linked.kernel ≡ None → All (IsStart u.linked.kernel) starts
-    → (1 ≤ length starts) × (length starts ≤ 64) → runs.IsInput (runs.asked u trials starts)
-run_input ready u trials starts valid closed same none each count =
-    record {
-      runnable = record { ready = subst IsReady (sym same) valid; closed = subst (λ x. AreClosed x.linked) (sym same) closed };
-      unbarred = subst (λ x. barred_call trials x.linked.kernel ≡ None) (sym same) none;
-      starts = each;
-      some = count.0;
-      few = count.1;
-    }
+pub run_input : (ready : Ready) (trials : Trials) (starts : List Store) → IsReady ready → AreClosed ready.linked → barred_call trials ready.linked.kernel ≡ None
+    → All (IsStart ready.linked.kernel) starts → (1 ≤ length starts) × (length starts ≤ 64) → runs.IsInput (runs.asked ready trials starts)
+run_input ready trials starts valid closed none each count = record {
+  runnable = record { ready = valid; closed = closed };
+  unbarred = none;
+  starts = each;
+  some = count.0;
+  few = count.1;
+}
 
 -- ---- the commands that choose
 
@@ -190,26 +200,21 @@ module _ (held : Bytes → Option Content) (old new : Log) (w : Optimise) where
       reaches_answer held old new (optimise_work w) f r
       (works_last held old new (problem_work w.source w.hardware w.inputs w.function) (choosing (choose.Optimise w.search)) p (Ok f) (Ok f) works refl refl) final
 
-module _ (held : Bytes → Option Content) (old : Log) (what : What) (w : Certified) where
-  pub problem_stops : (new : Log) (e : Fault) → Works held old new (problem_work w.source w.hardware w.inputs w.function) (Err e) → Reaches held old new (certified_work what w) (Err e)
-  problem_stops new e works =
+module _ (held : Bytes → Option Content) (old new : Log) (what : What) where
+  pub problem_stops : (w : Certified) (e : Fault) → Works held old new (problem_work w.source w.hardware w.inputs w.function) (Err e) → Reaches held old new (certified_work what w) (Err e)
+  problem_stops w e works =
       reaches_stop held old new (certified_work what w) e (works_stop held old new (problem_work w.source w.hardware w.inputs w.function) (certificate_of what w) e works)
 
-  module _ (now : Bytes → Option Content) (mid new : Log) (p : Problem) (same : (n : Bytes) → now n ≡ held n) (read : Works held old mid (problem_work w.source w.hardware w.inputs w.function) (Ok p)) where
-    after_problem : (r : Result Finding Fault) → Works held mid new (certificate_of what w p) r → Works held old new (certified_work what w) r
-    after_problem r works = works_then held old mid new (problem_work w.source w.hardware w.inputs w.function) (certificate_of what w) p r read works
+  pub certificate_stops : (name : Bytes) (p : Problem) (e : Fault) → Works held old new (certificate_work name) (Err e) → Reaches held old new (certificate_work name then certifying what p) (Err e)
+  certificate_stops name p e works =
+      reaches_stop held old new (certificate_work name then certifying what p) e (works_stop held old new (certificate_work name) (certifying what p) e works)
 
-    pub certificate_stops : (e : Fault) → Works now mid new (certificate_work w.certificate) (Err e) → Reaches held old new (certified_work what w) (Err e)
-    certificate_stops e works =
-        reaches_stop held old new (certified_work what w) e
-        (after_problem (Err e) (works_stop held mid new (certificate_work w.certificate) (certifying what p) e (works_same held now mid new (certificate_work w.certificate) (Err e) same works)))
-
-    pub certificate_answers : (text : Bytes) (r : Result Answer Fault) → Works now mid new (certificate_work w.certificate) (Ok text)
-        → Final (Ok (Choosing (choose.given p.ready p.starts (choose.Certify what text)))) r → Reaches held old new (certified_work what w) r
-    certificate_answers text r works final =
-        let f = Choosing (choose.given p.ready p.starts (choose.Certify what text)) in
-        reaches_answer held old new (certified_work what w) f r
-        (after_problem (Ok f) (works_last held mid new (certificate_work w.certificate) (certifying what p) text (Ok f) (Ok f) (works_same held now mid new (certificate_work w.certificate) (Ok text) same works) refl refl)) final
+  pub certificate_answers : (name : Bytes) (p : Problem) (text : Bytes) (r : Result Answer Fault) → Works held old new (certificate_work name) (Ok text)
+      → Final (Ok (Choosing (choose.given p.ready p.starts (choose.Certify what text)))) r → Reaches held old new (certificate_work name then certifying what p) r
+  certificate_answers name p text r works final =
+      let f = Choosing (choose.given p.ready p.starts (choose.Certify what text)) in
+      reaches_answer held old new (certificate_work name then certifying what p) f r
+      (works_last held old new (certificate_work name) (certifying what p) text (Ok f) (Ok f) works refl refl) final
 
 module _ (held : Bytes → Option Content) (log : Log) (m : Make) where
   pub make_stops : (e : Fault) → Comes {A = Problem} (made_problem m.size m.number) (Err e) → Reaches held log log (make_work m) (Err e)

@@ -22,7 +22,7 @@ use Rattle.chisel_lines.specs.declared.status.Status.TheVariants as status
 use Rattle.chisel_outside.specs.Outside.{Log}
 use Rattle.chisel_verify.proofs.Promising.{keeps_promise}
 use Rattle.chisel_words.specs.Words.{Command, files_of, form}
-use Rattle.chisel_top.specs.Findings.{Choosing, Finding, IsAnswer, IsSound, Judging, Promise, Running, finding, opened_for, work_of}
+use Rattle.chisel_top.specs.Findings.{Choosing, Finding, Introducing, IsAnswer, IsSound, Judging, Promise, Running, finding, opened_for, work_of}
 use Rattle.chisel_top.specs.Outcomes.{Final, Reaches, outcome_status, outcome_text}
 use Rattle.chisel_top.specs.Promises.{Answers, Counts, EndsWithoutForm, FailedLast, FetchesInOrder, Headline, IsOwed, IsReport, OpensInOrder, Wrote, WroteFront, gained}
 use Rattle.chisel_top.specs.Telling.{Delivers}

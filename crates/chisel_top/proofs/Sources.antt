@@ -25,7 +25,7 @@ use Rattle.chisel_source.specs.declared.ready.Ready.{Ready}
 use Rattle.chisel_run.specs.Answer as runs
 use Rattle.chisel_verify.specs.Answer as verify
 use Rattle.chisel_words.specs.Words.{Certified, Command, ToCheck, ToMake, ToMigrate, ToOptimise, ToRewrite, ToRun, ToVerify, ToVersion, form}
-use Rattle.chisel_top.specs.Findings.{Choosing, Finding, Judging, Running, certificate_of, certified_work, certifying, choosing, finding, inputs_of, judging, running, running_from, unbarred, work_of}
+use Rattle.chisel_top.specs.Findings.{Choosing, Finding, Introducing, Judging, Running, certificate_of, certified_work, certifying, choosing, finding, inputs_of, judging, running, running_from, unbarred, work_of}
 use Rattle.chisel_top.specs.Rewriting.{IsMeaning}
 
 -- ---- what work comes to

@@ -1,16 +1,19 @@
 //! The commands: each fetches its files in the order of work, and its family answers.
 
-ghost use Rattle.std.specs.Prelude.{◌≡◌, ◌≤◌, List, ℕ, Option, None, Some, Ok, IfOk, OnOk};
+ghost use Rattle.std.specs.Prelude.{◌≡◌, ◌≤◌, List, ℕ, Option, None, Some, Ok};
 ghost use Rattle.rely_num.specs.Texts.{Bytes};
 ghost use Rattle.chisel_outside.specs.Outside.{Log};
 ghost use Rattle.chisel_optimise.specs.Answers.{given, job_of};
 ghost use Rattle.chisel_optimise.specs.Promises.{IsJob};
 ghost use Rattle.chisel_words.specs.Asked.{to_certified, to_make, to_optimise, to_run, to_verify};
 ghost use Rattle.chisel_words.specs.Words.{ToMake, ToOptimise, ToRun, ToVerify, ToVersion};
-ghost use Rattle.chisel_files.specs.Choosing.{IsProblem};
-ghost use Rattle.chisel_files.specs.Works.{Comes, Content};
+ghost use Rattle.chisel_files.specs.Choosing.{IsProblem, certificate_work};
+ghost use Rattle.chisel_files.specs.Works.{Content, ◌then◌};
+ghost use Rattle.chisel_run.specs.Answer as runs;
 ghost use Rattle.chisel_run.specs.Calls.{barred_call};
-ghost use Rattle.chisel_top.specs.Findings.{Choosing, certified_work, unbarred, work_of};
+ghost use Rattle.chisel_source.specs.Meaning.{AreClosed, IsReady};
+ghost use Rattle.chisel_verify.specs.Answer as verify;
+ghost use Rattle.chisel_top.specs.Findings.{Choosing, Judging, Running, certified_work, certifying, inputs_of, running, work_of};
 ghost use Rattle.chisel_top.specs.Outcomes.{Final, Reaches};
 
 use chisel_files::{Names, Problem, certificate, closed_ready, made, read_problem, starts};
@@ -21,8 +24,21 @@ use chisel_outside::Shelf;
 use chisel_run::barred_call;
 use chisel_source::Ready;
 use chisel_words::{CertifiedWords, MakeWords, OptimiseWords, RunWords, VerifyWords};
+use rely_kernel::Store;
 use rely_num::List;
 use std::alloc::Global;
+
+/// The answer to what is asked of the claims.
+fn judged<'w>(alloc: Global, ready: &Ready, callees: bool) -> Result<Answer, Fault<'w>>
+    requires ready { IsReady ready.now }
+    requires closed { AreClosed ready.now.linked }
+    ensures { Final (Ok (Judging (verify.asked ready.now callees))) result }
+{
+    match chisel_verify::verify(alloc, ready, callees) {
+        Ok(answer) => Ok(answer),
+        Err(_) => Err(Fault::Memory),
+    }
+}
 
 /// The command `verify`.
 pub(crate) fn verify<'w, F: Shelf>(
@@ -33,25 +49,63 @@ pub(crate) fn verify<'w, F: Shelf>(
     ensures held { (n : List ℕ) → F.held shelf.new n ≡ F.held shelf.old n }
     ensures reaches { Reaches (F.held shelf.old) (F.log shelf.old) (F.log shelf.new) (work_of (Some (ToVerify (to_verify words.entry)))) result }
 {
-    let ready = match closed_ready(alloc, words.source, words.hardware, words.function, shelf) {
-        Ok(ready) => ready,
-        Err(fault) => return Err(fault),
-    };
-    match chisel_verify::verify(alloc, &ready, words.callees) {
+    match closed_ready(alloc, words.source, words.hardware, words.function, shelf) {
+        Ok(ready) => judged(alloc, &ready, words.callees),
+        Err(fault) => Err(fault),
+    }
+}
+
+/// The answer to what is asked of runs.
+fn ran<'w>(
+    alloc: Global,
+    ready: &Ready,
+    trials: Trials,
+    starts: &[Store],
+) -> Result<Answer, Fault<'w>>
+    requires { runs.IsInput (runs.asked ready.now trials starts.now) }
+    ensures { Final (Ok (Running (runs.asked ready.now trials starts.now))) result }
+{
+    match chisel_run::run(alloc, ready, trials, starts) {
         Ok(answer) => Ok(answer),
         Err(_) => Err(Fault::Memory),
     }
 }
 
-/// The same back, unless trials are asked of a function that calls another.
-fn unbarred<'w>(trials: Trials, ready: Ready) -> Result<Ready, Fault<'w>>
-    ensures comes { Comes (unbarred trials ready) result }
-    ensures same { IfOk result (λ r. r ≡ ready) }
-    ensures none { OnOk result (barred_call trials ready.linked.kernel ≡ None) }
+/// The runs of what is ready and isn't barred, from its sample inputs.
+fn simulate_inputs<'w, F: Shelf>(
+    alloc: Global,
+    words: RunWords<'w>,
+    ready: &Ready,
+    shelf: &mut F,
+) -> Result<Answer, Fault<'w>>
+    requires ready { IsReady ready.now }
+    requires closed { AreClosed ready.now.linked }
+    requires unbarred { barred_call words.trials ready.now.linked.kernel ≡ None }
+    ensures held { (n : List ℕ) → F.held shelf.new n ≡ F.held shelf.old n }
+    ensures reaches { Reaches (F.held shelf.old) (F.log shelf.old) (F.log shelf.new) (inputs_of (to_run words.entry) ready.now) result }
 {
-    match barred_call(trials, &ready.linked.kernel) {
+    let starts = match starts(alloc, &ready.linked.kernel, words.inputs, shelf) {
+        Ok(starts) => starts,
+        Err(fault) => return Err(fault),
+    };
+    ran(alloc, ready, words.trials, starts.as_slice())
+}
+
+/// The runs of what is ready, unless trials are asked of a function that calls another.
+fn simulate_ready<'w, F: Shelf>(
+    alloc: Global,
+    words: RunWords<'w>,
+    ready: &Ready,
+    shelf: &mut F,
+) -> Result<Answer, Fault<'w>>
+    requires ready { IsReady ready.now }
+    requires closed { AreClosed ready.now.linked }
+    ensures held { (n : List ℕ) → F.held shelf.new n ≡ F.held shelf.old n }
+    ensures reaches { Reaches (F.held shelf.old) (F.log shelf.old) (F.log shelf.new) (running (to_run words.entry) ready.now) result }
+{
+    match barred_call(words.trials, &ready.linked.kernel) {
         Some(place) => Err(Fault::Refused(Refusal::Source(Reason::Trials, place))),
-        None => Ok(ready),
+        None => simulate_inputs(alloc, words, ready, shelf),
     }
 }
 
@@ -64,21 +118,9 @@ pub(crate) fn simulate<'w, F: Shelf>(
     ensures held { (n : List ℕ) → F.held shelf.new n ≡ F.held shelf.old n }
     ensures reaches { Reaches (F.held shelf.old) (F.log shelf.old) (F.log shelf.new) (work_of (Some (ToRun (to_run words.entry)))) result }
 {
-    let ready = match closed_ready(alloc, words.source, words.hardware, words.function, shelf) {
-        Ok(ready) => ready,
-        Err(fault) => return Err(fault),
-    };
-    let ready = match unbarred(words.trials, ready) {
-        Ok(ready) => ready,
-        Err(fault) => return Err(fault),
-    };
-    let starts = match starts(alloc, &ready.linked.kernel, words.inputs, shelf) {
-        Ok(starts) => starts,
-        Err(fault) => return Err(fault),
-    };
-    match chisel_run::run(alloc, &ready, words.trials, starts.as_slice()) {
-        Ok(answer) => Ok(answer),
-        Err(_) => Err(Fault::Memory),
+    match closed_ready(alloc, words.source, words.hardware, words.function, shelf) {
+        Ok(ready) => simulate_ready(alloc, words, &ready, shelf),
+        Err(fault) => Err(fault),
     }
 }
 
@@ -117,6 +159,25 @@ pub(crate) fn optimise<'w, F: Shelf>(
     chosen(alloc, &problem, Task::Optimise(words.search))
 }
 
+/// The commands that take a certificate, of a problem.
+fn certified<'w, F: Shelf>(
+    alloc: Global,
+    certificate_name: &'w str,
+    asked: Asked,
+    problem: &Problem,
+    shelf: &mut F,
+) -> Result<Answer, Fault<'w>>
+    requires { IsProblem problem.now }
+    ensures held { (n : List ℕ) → F.held shelf.new n ≡ F.held shelf.old n }
+    ensures reaches { Reaches (F.held shelf.old) (F.log shelf.old) (F.log shelf.new) (certificate_work certificate_name.now then certifying asked problem.now) result }
+{
+    let text = match certificate(alloc, certificate_name, shelf) {
+        Ok(text) => text,
+        Err(fault) => return Err(fault),
+    };
+    chosen(alloc, problem, Task::Certify(asked, text.as_slice()))
+}
+
 /// The commands that take a certificate.
 pub(crate) fn certify<'w, F: Shelf>(
     alloc: Global,
@@ -133,15 +194,10 @@ pub(crate) fn certify<'w, F: Shelf>(
         inputs: words.inputs,
         function: words.function,
     };
-    let problem = match read_problem(alloc, names, shelf) {
-        Ok(problem) => problem,
-        Err(fault) => return Err(fault),
-    };
-    let text = match certificate(alloc, words.certificate, shelf) {
-        Ok(text) => text,
-        Err(fault) => return Err(fault),
-    };
-    chosen(alloc, &problem, Task::Certify(asked, text.as_slice()))
+    match read_problem(alloc, names, shelf) {
+        Ok(problem) => certified(alloc, words.certificate, asked, &problem, shelf),
+        Err(fault) => Err(fault),
+    }
 }
 
 /// The command `make`, which fetches nothing.

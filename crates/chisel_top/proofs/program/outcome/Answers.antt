@@ -52,4 +52,4 @@ pub returns-in-Some-Version-clause-reaches : goal.returns-in-Some-Version-clause
 returns-in-Some-Version-clause-reaches g c =
     let held = g.F.Shelf.held c.args.shelf.now in
     let log = g.F.Shelf.log c.args.shelf.now in
-    words_reach c.read.result (form c.args.words.now) _ held log log c.introduce.result c.read.ensures.form c.in-Some-Version.is (c.introduce.ensures held log)
+    words_reach c.read.result (form c.args.words.now) _ held log log c.introduce.result c.read.ensures.form (c.in-Some-Version.is ∙ ap Some c.in-Some-Version.field-0-is) (c.introduce.ensures held log)
