@@ -1,5 +1,5 @@
 //! Expressions with numbers in place of names.
-ghost use Rattle.std.specs.Prelude.{◌≡◌, ◌≤◌, ◌+◌, ◌++◌, map, length, IfOk, OnOk};
+ghost use Rattle.std.specs.Prelude.{◌≡◌, ◌≤◌, ◌+◌, ◌++◌, ◌∷◌, [], map, length, IfOk, OnOk};
 ghost use Rattle.rely_hard.specs.Valid.{IsHardware};
 ghost use Rattle.rely_tree.specs.Shape.{kind_shape, expr_shape, decl_shape};
 ghost use Rattle.rely_tree.specs.Counts.{expr_operators, exprs_operators};
@@ -9,11 +9,11 @@ ghost use Rattle.std.specs.List.{AllByRecursion};
 ghost use Rattle.rely_resolve.specs.Names.{names, number_of, kind_names};
 
 use crate::names::place_of_kind;
-use crate::variables::Variables;
+use crate::scope::Means;
 use rely_hard::{Hardware, KindSpec};
 use rely_kernel::{Ex, Site, Slot, kinds_of};
 use rely_num::{List, Op, Span};
-use rely_tree::{Expr, Kind};
+use rely_tree::{Expr, Ident, Kind};
 use sqlite_items::Boxed;
 use std::alloc::{AllocError, Global};
 
@@ -63,58 +63,79 @@ fn site_of(h: &Hardware, op: Op, kind: Kind) -> Site
     }
 }
 
-/// An expression, whose sites join the others.
-pub(crate) fn expr(
-    alloc: Global,
-    h: &Hardware,
-    vars: &Variables,
-    sites: &mut Vec<Site>,
-    e: &Expr,
-) -> Result<Ex, AllocError>
+/// One more site, and its number.
+fn push_site(h: &Hardware, sites: &mut Vec<Site>, op: Op, kind: Kind) -> Result<u32, AllocError>
     requires hardware { IsHardware h.now }
+    requires room { length sites.old.items ≤ 255 }
+    ensures number { IfOk result (λ n. n ≡ length sites.old.items) }
+    ensures sites { let one = site_of h.now op (kind_shape kind.entry) in
+        OnOk result (sites.new.items ≡ sites.old.items ++ one ∷ []) }
+    ensures len { OnOk result (length sites.new.items ≡ length sites.old.items + 1) }
+{
+    let site = sites.len() as u32;
+    sites.push(site_of(h, op, kind))?;
+    Ok(site)
+}
+
+/// An array's element.
+fn element(means: &Means, i: Ident, index: Ex) -> Result<Ex, AllocError>
+    ensures { let vs = names (map decl_shape means.now.vars.now.list.items) in
+        IfOk result (λ x. x ≡ Ex.Elem (number_of i.entry.text.now vs) index) }
+{
+    let index = Boxed::new(means.alloc, index)?;
+    Ok(Ex::Elem(means.vars.number(i.text), index))
+}
+
+/// An operator with its operands.
+fn operation(alloc: Global, site: u32, left: Ex, right: Ex) -> Result<Ex, AllocError>
+    ensures { IfOk result (λ x. x ≡ Ex.Bin site left right) }
+{
+    let left = Boxed::new(alloc, left)?;
+    let right = Boxed::new(alloc, right)?;
+    Ok(Ex::Bin(site, left, right))
+}
+
+/// An expression, whose sites join the others.
+pub(crate) fn expr(means: &Means, sites: &mut Vec<Site>, e: &Expr) -> Result<Ex, AllocError>
+    requires hardware { IsHardware means.now.h.now }
     requires numbers { IsExpr (expr_shape e.now) }
     requires room { length sites.old.items + expr_operators (expr_shape e.now) ≤ 256 }
-    ensures ok { IfOk result (λ x. x ≡ ex_of (names (map decl_shape vars.now.list.items)) (length sites.old.items) (expr_shape e.now)) }
-    ensures sites { OnOk result (sites.new.items ≡ sites.old.items ++ expr_sites h.now (expr_shape e.now)) }
+    ensures ok { IfOk result (λ x. x ≡ ex_of (names (map decl_shape means.now.vars.now.list.items)) (length sites.old.items) (expr_shape e.now)) }
+    ensures sites { OnOk result (sites.new.items ≡ sites.old.items ++ expr_sites means.now.h.now (expr_shape e.now)) }
     ensures len { OnOk result (length sites.new.items ≡ length sites.old.items + expr_operators (expr_shape e.now)) }
 {
     match *e {
         Expr::Num(number) => Ok(Ex::Num(number as i64)),
-        Expr::Name(i) => Ok(Ex::Read(vars.number(i.text))),
+        Expr::Name(i) => Ok(Ex::Read(means.vars.number(i.text))),
         Expr::Elem(i, index) => {
-            let index = expr(alloc, h, vars, sites, index)?;
-            Ok(Ex::Elem(vars.number(i.text), Boxed::new(alloc, index)?))
+            let index = expr(means, sites, index)?;
+            element(means, i, index)
         }
         Expr::Bin(op, _, kind, left, right) => {
-            let left = expr(alloc, h, vars, sites, left)?;
-            let site = sites.len() as u32;
-            sites.push(site_of(h, op, kind))?;
-            let right = expr(alloc, h, vars, sites, right)?;
-            let left = Boxed::new(alloc, left)?;
-            let right = Boxed::new(alloc, right)?;
-            Ok(Ex::Bin(site, left, right))
+            let left = expr(means, sites, left)?;
+            let site = push_site(means.h, sites, op, kind)?;
+            let right = expr(means, sites, right)?;
+            operation(means.alloc, site, left, right)
         }
     }
 }
 
 /// Expressions in order, whose sites join the others.
 pub(crate) fn exprs(
-    alloc: Global,
-    h: &Hardware,
-    vars: &Variables,
+    means: &Means,
     sites: &mut Vec<Site>,
     es: &[Expr],
 ) -> Result<List<Ex>, AllocError>
-    requires hardware { IsHardware h.now }
+    requires hardware { IsHardware means.now.h.now }
     requires numbers { AllByRecursion IsExpr (map expr_shape es.now) }
     requires room { length sites.old.items + exprs_operators (map expr_shape es.now) ≤ 256 }
-    ensures ok { IfOk result (λ xs. xs ≡ exs_of (names (map decl_shape vars.now.list.items)) (length sites.old.items) (map expr_shape es.now)) }
-    ensures sites { OnOk result (sites.new.items ≡ sites.old.items ++ exprs_sites h.now (map expr_shape es.now)) }
+    ensures ok { IfOk result (λ xs. xs ≡ exs_of (names (map decl_shape means.now.vars.now.list.items)) (length sites.old.items) (map expr_shape es.now)) }
+    ensures sites { OnOk result (sites.new.items ≡ sites.old.items ++ exprs_sites means.now.h.now (map expr_shape es.now)) }
     ensures len { OnOk result (length sites.new.items ≡ length sites.old.items + exprs_operators (map expr_shape es.now)) }
 {
-    let mut all = Vec::new(alloc);
+    let mut all = Vec::new(means.alloc);
     for e in es {
-        let one = expr(alloc, h, vars, sites, e)?;
+        let one = expr(means, sites, e)?;
         all.push(one)?;
     }
     Ok(List::from_vec(all))

@@ -3,48 +3,82 @@ ghost use Rattle.rely_resolve.specs.Faults.{place, rank, is_before, sooner, firs
 
 use rely_num::Span;
 use std::alloc::{AllocError, AllocFailed};
+use std::fmt;
 use thiserror::Error;
 
 /// Why a source means no kernel.
 #[derive(Clone, Copy, Debug, PartialEq, Eq, Error)]
 pub enum NameFault {
     /// A function or a variable that has the name of an earlier one.
-    #[error("the name at {} is used twice", .0.from)]
     Twice(Span),
-    #[error("no function has the name")]
+    /// No function has the name.
     Function,
     /// A name of a claim that is no parameter.
-    #[error("the name at {} is that of no parameter", .0.from)]
     ClaimParam(Span),
-    #[error("the name at {} is that of no variable", .0.from)]
+    /// A name that is that of no variable.
     Unknown(Span),
     /// A scalar with an index.
-    #[error("the scalar at {} has an index", .0.from)]
     NotArray(Span),
     /// An array without an index.
-    #[error("the array at {} has no index", .0.from)]
     NotScalar(Span),
     /// An operator that the hardware doesn't list, or a kind that it doesn't list for its operator.
-    #[error("the hardware doesn't list what is at {}", .0.from)]
     NoKind(Span),
-    #[error("the hardware doesn't list the memory at {}", .0.from)]
+    /// A memory that the hardware doesn't list.
     NoMemory(Span),
     /// The variable with which a function holds more than 65,536 numbers.
-    #[error("too many numbers are held with the variable at {}", .0.from)]
     Limit(Span),
-    #[error("no earlier function has the name at {}", .0.from)]
+    /// A callee whose name no earlier function has.
     NoCallee(Span),
-    #[error("the callee at {} takes another number of arguments", .0.from)]
+    /// A callee that takes another number of arguments.
     Arity(Span),
-    #[error("the callee at {} has an array as a parameter", .0.from)]
+    /// A callee that has an array as a parameter.
     ArrayParam(Span),
-    #[error("the callee at {} claims nothing of its result", .0.from)]
+    /// A callee that claims nothing of its result.
     NoClaim(Span),
-    #[error("out of memory")]
     Memory,
 }
 
+impl fmt::Display for NameFault {
+    fn fmt<W: fmt::Write>(&self, f: &mut fmt::Formatter<W>) -> fmt::Result {
+        match self {
+            NameFault::Function | NameFault::Memory => f.write_str(self.subject()),
+            _ => write!(f, "{} at {}{}", self.subject(), self.place(), self.ending()),
+        }
+    }
+}
+
 impl NameFault {
+    // What stands before its place in what is said of it.
+    fn subject(self) -> &'static str {
+        match self {
+            NameFault::Twice(_) | NameFault::ClaimParam(_) | NameFault::Unknown(_) => "the name",
+            NameFault::Function => "no function has the name",
+            NameFault::NotArray(_) => "the scalar",
+            NameFault::NotScalar(_) => "the array",
+            NameFault::NoKind(_) => "the hardware doesn't list what is",
+            NameFault::NoMemory(_) => "the hardware doesn't list the memory",
+            NameFault::Limit(_) => "too many numbers are held with the variable",
+            NameFault::NoCallee(_) => "no earlier function has the name",
+            NameFault::Arity(_) | NameFault::ArrayParam(_) | NameFault::NoClaim(_) => "the callee",
+            NameFault::Memory => "out of memory",
+        }
+    }
+
+    // What stands behind it.
+    fn ending(self) -> &'static str {
+        match self {
+            NameFault::Twice(_) => " is used twice",
+            NameFault::ClaimParam(_) => " is that of no parameter",
+            NameFault::Unknown(_) => " is that of no variable",
+            NameFault::NotArray(_) => " has an index",
+            NameFault::NotScalar(_) => " has no index",
+            NameFault::Arity(_) => " takes another number of arguments",
+            NameFault::ArrayParam(_) => " has an array as a parameter",
+            NameFault::NoClaim(_) => " claims nothing of its result",
+            _ => "",
+        }
+    }
+
     // Where it stands.
     fn place(self) -> u32
         ensures { result ≡ place self }

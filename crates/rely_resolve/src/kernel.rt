@@ -1,5 +1,5 @@
 //! The kernel of one function.
-ghost use Rattle.std.specs.Prelude.{◌≡◌, ◌≤◌, ◌++◌, map, length, option_map, IfOk, OnOk};
+ghost use Rattle.std.specs.Prelude.{◌≡◌, ◌≤◌, ◌++◌, map, length, option_map, true, false, IfOk, OnOk};
 ghost use Rattle.std.specs.Option.{option_map_or};
 ghost use Rattle.rely_hard.specs.Valid.{IsHardware};
 ghost use Rattle.rely_tree.specs.Tree.{variables};
@@ -77,6 +77,18 @@ fn push_vars(
     Ok(())
 }
 
+/// The parameters, then the locals.
+fn vars_of(alloc: Global, h: &Hardware, f: &Func) -> Result<List<Var>, AllocError>
+    requires { IsHardware h.now }
+    ensures { let f = func_shape f.now in
+        IfOk result (λ vs. vs ≡ map (var_of h.now true) f.params ++ map (var_of h.now false) f.locals) }
+{
+    let mut vars = Vec::new(alloc);
+    push_vars(alloc, h, true, f.params, &mut vars)?;
+    push_vars(alloc, h, false, f.locals, &mut vars)?;
+    Ok(List::from_vec(vars))
+}
+
 /// A set with the named parameters.
 fn needs_of(params: &Variables, needs: &[Ident]) -> VarSet
     ensures { result.bits ≡ needs_of (names (map decl_shape params.now.list.items)) 0 (map ident_shape needs.now) }
@@ -137,7 +149,7 @@ pub(crate) fn fault_of(scope: &Scope, f: &Func) -> Option<NameFault>
 
 /// The kernel of a function whose names are as they must be.
 #[tactic(auto, using(crate::proofs::Numbers::numbers_of_body))]
-pub(crate) fn kernel_of(alloc: Global, means: &Means, f: &Func) -> Result<Kernel, AllocError>
+pub(crate) fn kernel_of(means: &Means, f: &Func) -> Result<Kernel, AllocError>
     requires hardware { IsHardware means.now.h.now }
     requires function { IsFunction (func_shape f.now) }
     requires vars { map decl_shape means.now.vars.now.list.items ≡ variables (func_shape f.now) }
@@ -145,19 +157,18 @@ pub(crate) fn kernel_of(alloc: Global, means: &Means, f: &Func) -> Result<Kernel
     requires done { length means.now.done.now ≤ 64 }
     ensures { IfOk result (λ k. k ≡ kernel_of means.now.h.now (done_of (map func_shape means.now.done.now) means.now.kernels.now) (func_shape f.now)) }
 {
-    let mut vars = Vec::new(alloc);
-    push_vars(alloc, means.h, true, f.params, &mut vars)?;
-    push_vars(alloc, means.h, false, f.locals, &mut vars)?;
+    let alloc = means.alloc;
+    let vars = vars_of(alloc, means.h, f)?;
+    let claims = claims_of(alloc, means.params, f.claims)?;
     let mut made = Made {
         sites: Vec::new(alloc),
         calls: Vec::new(alloc),
     };
-    let body = block(alloc, means, &mut made, f.body)?;
-    let claims = claims_of(alloc, means.params, f.claims)?;
+    let body = block(means, &mut made, f.body)?;
     let Made { sites, calls } = made;
     Ok(Kernel {
         name: f.name.span,
-        vars: List::from_vec(vars),
+        vars,
         sites: List::from_vec(sites),
         calls: List::from_vec(calls),
         body,

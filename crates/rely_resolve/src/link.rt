@@ -5,7 +5,8 @@ ghost use Rattle.rely_hard.specs.Valid.{IsHardware};
 ghost use Rattle.rely_kernel.specs.Machine.{functions};
 ghost use Rattle.rely_kernel.specs.Setting.{IsOn, marks_of};
 ghost use Rattle.rely_kernel.specs.Valid.{IsLinked};
-ghost use Rattle.rely_tree.specs.Shape.{func_shape, unit_shape};
+ghost use Rattle.rely_tree.specs.Shape.{decl_shape, func_shape, unit_shape};
+ghost use Rattle.rely_tree.specs.Tree.{variables};
 ghost use Rattle.rely_resolve.specs.Kernels.{done_of, kernel_of};
 ghost use Rattle.rely_tree.specs.Limits.{IsFunction, IsUnit};
 ghost use Rattle.rely_resolve.specs.Linked.{fault_of, linked_at, linked_from, linked_of, nothing_done, twice_among, with_function};
@@ -43,6 +44,41 @@ struct Done<'a> {
     kernels: Vec<Kernel>,
 }
 
+/// The kernel of a function whose names may mean this, where they are as they must be.
+fn meant<'a>(
+    alloc: Global,
+    scope: &Scope<'_, 'a>,
+    done: &Done<'a>,
+    f: &Func<'a>,
+) -> Result<Kernel, NameFault>
+    requires hardware { IsHardware scope.now.h.now }
+    requires function { IsFunction (func_shape f.now) }
+    requires vars { map decl_shape scope.now.vars.now.list.items ≡ variables (func_shape f.now) }
+    requires params { scope.now.params.now.list.items ≡ f.now.params.now }
+    requires few { length done.now.functions.items ≤ 64 }
+    ensures ok { let h = scope.now.h.now in
+        let before = done_of (map func_shape done.now.functions.items) done.now.kernels.items in
+        let none = fault_of h (map func_shape scope.now.earlier.now) (func_shape f.now) ≡ None in
+        IfOk result (λ k. none × (k ≡ kernel_of h before (func_shape f.now))) }
+    ensures err { let h = scope.now.h.now in
+        let fault = fault_of h (map func_shape scope.now.earlier.now) (func_shape f.now) in
+        IfErr result (λ e. (e ≡ NameFault.Memory) ⊎ (fault ≡ Some e)) }
+{
+    if let Some(fault) = fault_of(scope, f) {
+        return Err(fault);
+    }
+    let means = Means {
+        alloc,
+        h: scope.h,
+        params: scope.params,
+        vars: scope.vars,
+        done: done.functions.as_slice(),
+        kernels: done.kernels.as_slice(),
+    };
+    let kernel = kernel_of(&means, f)?;
+    Ok(kernel)
+}
+
 /// The kernel of a function that stands after these.
 fn linked<'a>(
     alloc: Global,
@@ -65,18 +101,7 @@ fn linked<'a>(
         params: &params,
         vars: &vars,
     };
-    if let Some(fault) = fault_of(&scope, f) {
-        return Err(fault);
-    }
-    let means = Means {
-        h,
-        params: &params,
-        vars: &vars,
-        done: done.functions.as_slice(),
-        kernels: done.kernels.as_slice(),
-    };
-    let kernel = kernel_of(alloc, &means, f)?;
-    Ok(kernel)
+    meant(alloc, &scope, done, f)
 }
 
 /// One more function, where it is reached.
@@ -100,8 +125,8 @@ fn push_linked<'a>(
         return Ok(());
     }
     let kernel = linked(alloc, h, earlier, done, g)?;
-    done.functions.push(*g)?;
     done.kernels.push(kernel)?;
+    done.functions.push(*g)?;
     Ok(())
 }
 

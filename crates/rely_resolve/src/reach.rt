@@ -68,6 +68,20 @@ fn reached_callees<'a>(
     }
 }
 
+/// Whether a function is one of those that are called, which it then adds to.
+fn mark<'a>(g: &Func<'a>, called: &mut Vec<&'a [u8]>) -> Result<bool, AllocError>
+    ensures mark { let is_called = is_among g.now.name.text.now (map (λ n. n.now) called.old.items) in
+        IfOk result (λ m. m ≡ is_called) }
+    ensures called { let before = map (λ n. n.now) called.old.items in
+        let body = block_callees (func_shape g.now).body in
+        let more = (if is_among g.now.name.text.now before then body else []) in
+        OnOk result (map (λ n. n.now) called.new.items ≡ before ++ more) }
+{
+    let is_reached = is_among(g.name.text, called.as_slice());
+    reached_callees(is_reached, g, called)?;
+    Ok(is_reached)
+}
+
 /// Which of the functions before `f` are reached, the last one first.
 pub(crate) fn marks(alloc: Global, f: &Func, before: &[Func]) -> Result<Vec<bool>, AllocError>
     ensures { IfOk result (λ m. m.items ≡ marks (func_shape f.now) (map func_shape before.now)) }
@@ -78,8 +92,7 @@ pub(crate) fn marks(alloc: Global, f: &Func, before: &[Func]) -> Result<Vec<bool
     let mut i = before.len();
     while i > 0 {
         i -= 1;
-        let is_reached = is_among(before[i].name.text, called.as_slice());
-        reached_callees(is_reached, &before[i], &mut called)?;
+        let is_reached = mark(&before[i], &mut called)?;
         marks.push(is_reached)?;
     }
     Ok(marks)

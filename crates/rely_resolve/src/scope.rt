@@ -2,6 +2,7 @@ use crate::variables::Variables;
 use rely_hard::Hardware;
 use rely_kernel::{CallSite, Kernel, Site};
 use rely_tree::Func;
+use std::alloc::Global;
 
 /// What the names of a function may mean.
 #[derive(Clone, Copy)]
@@ -14,9 +15,10 @@ pub(crate) struct Scope<'s, 'a> {
     pub(crate) vars: &'s Variables<'a>,
 }
 
-/// What the names of a function without a fault mean.
+/// What the names of a function without a fault mean, and where its kernel's memory comes from.
 #[derive(Clone, Copy)]
 pub(crate) struct Means<'s, 'a> {
+    pub(crate) alloc: Global,
     pub(crate) h: &'s Hardware,
     pub(crate) params: &'s Variables<'a>,
     /// Its parameters, then its locals.

@@ -1,9 +1,9 @@
 //! What is wrong with the names of expressions and statements.
-ghost use Rattle.std.specs.Prelude.{◌≡◌, map, find};
+ghost use Rattle.std.specs.Prelude.{◌≡◌, ◌++◌, map, find, length};
 ghost use Rattle.std.specs.Option.{option_copied};
 ghost use Rattle.rely_num.specs.Ops.{is_op};
 ghost use Rattle.rely_tree.specs.Shape.{ident_shape, kind_shape, expr_shape, stmt_shape, block_shape, decl_shape, func_shape};
-ghost use Rattle.rely_resolve.specs.Faults.{first_with, scalar_faults, array_faults, named_faults, kind_faults, expr_faults, exprs_faults, stmt_faults, block_faults};
+ghost use Rattle.rely_resolve.specs.Faults.{first_with, scalar_faults, array_faults, named_faults, kind_faults, callee_faults, expr_faults, exprs_faults, stmt_faults, block_faults};
 
 use crate::calls::callee;
 use crate::fault::{NameFault, noted, sooner};
@@ -99,6 +99,26 @@ fn exprs(scope: &Scope, es: &[Expr], first: Option<NameFault>) -> Option<NameFau
     first
 }
 
+/// A call, whose value a scalar takes.
+#[tactic(auto, using(crate::proofs::Firsts::firsts))]
+fn call(
+    scope: &Scope,
+    i: Ident,
+    name: Ident,
+    args: &[Expr],
+    first: Option<NameFault>,
+) -> Option<NameFault>
+    ensures { let vs = map decl_shape scope.now.vars.now.list.items in
+        let earlier = map func_shape scope.now.earlier.now in
+        let of_name = callee_faults earlier (ident_shape name.entry) (length args.now) in
+        let of_args = exprs_faults scope.now.h.now vs (map expr_shape args.now) in
+        result ≡ first_with first (scalar_faults vs (ident_shape i.entry) ++ of_name ++ of_args) }
+{
+    let first = scalar(scope.vars, i, first);
+    let first = callee(scope.earlier, name, args.len(), first);
+    exprs(scope, args, first)
+}
+
 #[cycle(stmt)]
 #[tactic(auto, using(rely_tree::proofs::Shapes::shapes, crate::proofs::Firsts::firsts))]
 fn stmt(scope: &Scope, s: &Stmt, first: Option<NameFault>) -> Option<NameFault>
@@ -125,11 +145,7 @@ fn stmt(scope: &Scope, s: &Stmt, first: Option<NameFault>) -> Option<NameFault>
         }
         Stmt::Repeat(_, _, body) => block(scope, body, first),
         Stmt::Return(_, value) => expr(scope, &value, first),
-        Stmt::Call(_, i, _, name, args) => {
-            let first = scalar(scope.vars, i, first);
-            let first = callee(scope.earlier, name, args.len(), first);
-            exprs(scope, args, first)
-        }
+        Stmt::Call(_, i, _, name, args) => call(scope, i, name, args, first),
     }
 }
 
