@@ -10,12 +10,37 @@ use Rattle.chisel_cert.specs.declared.limits.TheConstants.{LAST_VERSION, MOST_DE
 use Rattle.chisel_cert.specs.Text.{spaced, listed, optional, version_line, size_line, choice_line, energy_line, row_line, row_lines, pool_line, vector_line, vector_lines, pool_lines}
 use Rattle.chisel_cert.specs.Ranges.{IsBetween, AreUpTo, IsChosen, IsGiven, IsRestated, IsMultipliers}
 use Rattle.chisel_cert.specs.State.{State, formless, skip_at, line_end_at, number_at, each_at}
-use Rattle.chisel_cert.specs.Lines.{spaced_at, listed_at, given_at, signed_at, version_line_at, size_line_at, options_line_at, choice_line_at, energy_line_at, row_line_at, pool_line_at, vector_line_at, vectors_at}
+use Rattle.chisel_cert.specs.Lines.{labelled_at, number_line_at, counted_line_at, spaced_at, listed_at, given_at, given_line_at, signed_at, version_line_at, size_line_at, options_line_at, choice_line_at, energy_line_at, row_line_at, pool_line_at, vector_line_at, vectors_at}
 use Rattle.std.proofs.lemmas.Int.{ints}
 use Rattle.chisel_cert.proofs.Numbers.{decimal-digit}
 use Rattle.chisel_cert.proofs.Readings.{skip-refused, skip-other, On, on-ok, on-then, on-choose, on-map, Says, ◌⨾◌, says-as, skip-says, line_end-says, number-says, each-says, Reads, reads-ok, reads-then, reads-skip, reads-choose, reads-other, reads-end, reads-number, each-reads}
 
 -- ---- what is read is the text
+
+-- the end of a line joins its front
+pub joins : (a b c d : Bytes) → a ++ (b ++ c ++ d) ≡ a ++ b ++ c ++ d
+joins a b c d = simp append_assoc
+
+pub labelled-says : (word : Bytes) (first last : ℕ) (s : State) →
+    On (labelled_at word first last s) (λ x. Says (word ++ decimal x.0) (IsBetween first last x.0) s x.1)
+unfolding labelled_at
+labelled-says word first last s =
+    on-then (skip_at word s) _ _ (skip-says word s) (λ a p. on-map (number_at first last a) _ (number-says first last a) (λ x q.
+    says-as (p ⨾ q) refl (λ f. f.1)))
+
+pub number_line-says : (first last : ℕ) (s : State) →
+    On (number_line_at first last s) (λ x. Says (decimal x.0 ++ codes "\n") (IsBetween first last x.0) s x.1)
+unfolding number_line_at
+number_line-says first last s =
+    on-then (number_at first last s) _ _ (number-says first last s) (λ x p.
+    on-then (line_end_at x.1) _ _ (line_end-says x.1) (λ a q. on-ok _ _ (says-as (p ⨾ q) refl (λ f. f.0))))
+
+pub counted_line-says : (word : Bytes) (first last : ℕ) (s : State) →
+    On (counted_line_at word first last s) (λ x. Says (word ++ decimal x.0 ++ codes "\n") (IsBetween first last x.0) s x.1)
+unfolding counted_line_at
+counted_line-says word first last s =
+    on-then (skip_at word s) _ _ (skip-says word s) (λ a p. on-map (number_line_at first last a) _ (number_line-says first last a) (λ x q.
+    says-as (p ⨾ q) (sym (append_assoc word (decimal x.0) (codes "\n"))) (λ f. f.1)))
 
 pub spaced-says : (last : ℕ) (s : State) → On (spaced_at last s) (λ x. Says (codes " " ++ decimal x.0) (x.0 ≤ last) s x.1)
 unfolding spaced_at
@@ -53,18 +78,23 @@ signed-says s =
     on-ok _ _ (says-as (p ⨾ q) (sym (negative-says x.0 q.fact).0) (λ f. (negative-says x.0 f.1).1))))
     (on-then (number_at 0 MOST_DEBITS s) _ _ (number-says 0 MOST_DEBITS s) (λ x q. on-ok _ _ (says-as q refl (λ f. (omega (arith, ints), omega (arith, ints, f.1))))))
 
+given_line-says : (word : Bytes) (last : ℕ) (wanted : Bool) (s : State) →
+    On (given_line_at word last wanted s) (λ x. Says (word ++ optional x.0 ++ codes "\n") (IsGiven last wanted x.0) s x.1)
+unfolding given_line_at
+given_line-says word last wanted s =
+    on-then (skip_at word s) _ _ (skip-says word s) (λ a p. on-then (given_at last wanted a) _ _ (given-says last wanted a) (λ x q.
+    on-then (line_end_at x.1) _ _ (line_end-says x.1) (λ b r. on-ok _ _ (says-as (p ⨾ q ⨾ r) refl (λ f. f.0.1)))))
+
 pub version-says : (s : State) → On (version_line_at s) (λ x. Says (version_line x.0) (IsBetween 1 LAST_VERSION x.0) s x.1)
 unfolding version_line_at
-version-says s =
-    on-then (skip_at (codes "chisel ") s) _ _ (skip-says (codes "chisel ") s) (λ a p. on-then (number_at 1 LAST_VERSION a) _ _ (number-says 1 LAST_VERSION a) (λ x q.
-    on-then (line_end_at x.1) _ _ (line_end-says x.1) (λ b r. on-ok _ _ (says-as (p ⨾ q ⨾ r) refl (λ f. f.0.1)))))
+version-says s = counted_line-says (codes "chisel ") 1 LAST_VERSION s
 
 pub size-says : (s : State) → On (size_line_at s) (λ x. Says (size_line x.0.0 x.0.1) (IsBetween 1 MOST_DECISIONS x.0.0 × IsBetween 1 MOST_ROWS x.0.1) s x.1)
 unfolding size_line_at
 size-says s =
-    on-then (skip_at (codes "size ") s) _ _ (skip-says (codes "size ") s) (λ a p. on-then (number_at 1 MOST_DECISIONS a) _ _ (number-says 1 MOST_DECISIONS a) (λ d q.
-    on-then (skip_at (codes " ") d.1) _ _ (skip-says (codes " ") d.1) (λ b r. on-then (number_at 1 MOST_ROWS b) _ _ (number-says 1 MOST_ROWS b) (λ x t.
-    on-then (line_end_at x.1) _ _ (line_end-says x.1) (λ c u. on-ok _ _ (says-as (p ⨾ q ⨾ r ⨾ t ⨾ u) refl (λ f. (f.0.0.0.1, f.0.1))))))))
+    on-then (labelled_at (codes "size ") 1 MOST_DECISIONS s) _ _ (labelled-says (codes "size ") 1 MOST_DECISIONS s) (λ d p.
+    on-then (counted_line_at (codes " ") 1 MOST_ROWS d.1) _ _ (counted_line-says (codes " ") 1 MOST_ROWS d.1) (λ x q.
+    on-ok _ _ (says-as (p ⨾ q) (joins (codes "size " ++ decimal d.0) (codes " ") (decimal x.0) (codes "\n")) (λ f. f))))
 
 options-says : (decisions : ℕ) (s : State) → On (options_line_at decisions s) (λ x. Says (choice_line (Some x.0)) (AreUpTo LAST_OPTION decisions x.0) s x.1)
 unfolding options_line_at
@@ -82,26 +112,22 @@ choice-says decisions s =
 
 pub energy-says : (chosen : Bool) (s : State) → On (energy_line_at chosen s) (λ x. Says (energy_line x.0) (IsGiven MOST_ENERGY chosen x.0) s x.1)
 unfolding energy_line_at
-energy-says chosen s =
-    on-then (skip_at (codes "energy ") s) _ _ (skip-says (codes "energy ") s) (λ a p. on-then (given_at MOST_ENERGY chosen a) _ _ (given-says MOST_ENERGY chosen a) (λ x q.
-    on-then (line_end_at x.1) _ _ (line_end-says x.1) (λ b r. on-ok _ _ (says-as (p ⨾ q ⨾ r) refl (λ f. f.0.1)))))
+energy-says chosen s = given_line-says (codes "energy ") MOST_ENERGY chosen s
 
 row-says : (chosen : Bool) (s : State) → On (row_line_at chosen s) (λ x. Says (row_line x.0) (IsRestated chosen x.0) s x.1)
 unfolding row_line_at
 row-says chosen s =
     on-then (skip_at (codes "row ") s) _ _ (skip-says (codes "row ") s) (λ a p. on-then (signed_at a) _ _ (signed-says a) (λ b q.
-    on-then (skip_at (codes " ") b.1) _ _ (skip-says (codes " ") b.1) (λ c r. on-then (given_at MOST_DEBITS chosen c) _ _ (given-says MOST_DEBITS chosen c) (λ u t.
-    on-then (line_end_at u.1) _ _ (line_end-says u.1) (λ e v.
-    on-ok _ _ (says-as (p ⨾ q ⨾ r ⨾ t ⨾ v) refl (λ f. record { least = f.0.0.0.1.0; greatest = f.0.0.0.1.1; spent = f.0.1 })))))))
+    on-then (given_line_at (codes " ") MOST_DEBITS chosen b.1) _ _ (given_line-says (codes " ") MOST_DEBITS chosen b.1) (λ u r.
+    on-ok _ _ (says-as (p ⨾ q ⨾ r) (joins (codes "row " ++ signed_decimal b.0) (codes " ") (optional u.0) (codes "\n"))
+    (λ f. record { least = f.0.1.0; greatest = f.0.1.1; spent = f.1 })))))
 
 pub rows-says : (chosen : Bool) (n : ℕ) (s : State) → On (each_at (row_line_at chosen) n s) (λ x. Says (row_lines x.0) ((length x.0 ≡ n) × AllByRecursion (IsRestated chosen) x.0) s x.1)
 rows-says chosen = each-says (row_line_at chosen) row_line row_lines (IsRestated chosen) refl (λ row rows. refl) (row-says chosen)
 
 pool-says : (s : State) → On (pool_line_at s) (λ x. Says (pool_line x.0) (IsBetween 1 MOST_VECTORS x.0) s x.1)
 unfolding pool_line_at
-pool-says s =
-    on-then (skip_at (codes "pool ") s) _ _ (skip-says (codes "pool ") s) (λ a p. on-then (number_at 1 MOST_VECTORS a) _ _ (number-says 1 MOST_VECTORS a) (λ x q.
-    on-then (line_end_at x.1) _ _ (line_end-says x.1) (λ b r. on-ok _ _ (says-as (p ⨾ q ⨾ r) refl (λ f. f.0.1)))))
+pool-says s = counted_line-says (codes "pool ") 1 MOST_VECTORS s
 
 vector-says : (rows : ℕ) → 1 ≤ rows → (s : State) → On (vector_line_at rows s) (λ x. Says (vector_line x.0) (IsMultipliers rows x.0) s x.1)
 unfolding vector_line_at
@@ -126,6 +152,26 @@ NoDigit text = is_digit (get_or text 0 0) ≡ false
 spaced-no_digit : (ns : List ℕ) (more : Bytes) → NoDigit more → NoDigit (spaced ns ++ more)
 spaced-no_digit [] more h = h
 spaced-no_digit (n ∷ ns) more h = refl
+
+labelled-reads : (word : Bytes) (first last n : ℕ) (more : Bytes) (s : State) → IsBetween first last n → last < 10 ^ 64 → NoDigit more →
+    s.text ≡ word ++ (decimal n ++ more) → Reads (labelled_at word first last s) n more s
+unfolding labelled_at
+labelled-reads word first last n more s range fits none h =
+    reads-skip word (decimal n ++ more) (λ a. number_at first last a) n more s h (λ r t. reads-number first last n more r range fits none t)
+
+pub number_line-reads : (first last n : ℕ) (more : Bytes) (s : State) → IsBetween first last n → last < 10 ^ 64 →
+    s.text ≡ decimal n ++ (codes "\n" ++ more) → Reads (number_line_at first last s) n more s
+unfolding number_line_at
+number_line-reads first last n more s range fits h =
+    reads-then (number_at first last s) _ n more s (reads-number first last n (codes "\n" ++ more) s range fits refl h) (λ a p.
+    reads-end more _ n more a p (λ b q. reads-ok n more b q))
+
+pub counted_line-reads : (word : Bytes) (first last n : ℕ) (more : Bytes) (s : State) → IsBetween first last n → last < 10 ^ 64 →
+    s.text ≡ word ++ (decimal n ++ (codes "\n" ++ more)) → Reads (counted_line_at word first last s) n more s
+unfolding counted_line_at
+counted_line-reads word first last n more s range fits h =
+    reads-skip word (decimal n ++ (codes "\n" ++ more)) (λ a. number_line_at first last a) n more s h (λ r t.
+    number_line-reads first last n more r range fits t)
 
 spaced-reads : (last n : ℕ) (more : Bytes) (s : State) → last < 10 ^ 64 → n ≤ last → NoDigit more → s.text ≡ codes " " ++ decimal n ++ more → Reads (spaced_at last s) n more s
 unfolding spaced_at
@@ -171,23 +217,28 @@ signed-reads (negsuc n) more s range none h =
     reads-choose (codes "-") (decimal (suc n) ++ more) _ _ (negsuc n) more s h (λ r t.
     reads-then (number_at 1 MOST_DEFICIT r) _ (negsuc n) more r (reads-number 1 MOST_DEFICIT (suc n) more r (omega arith, few) (omega arith) none t) (λ q u. reads-ok (negsuc n) more q u))
 
+given_line-reads : (word : Bytes) (last : ℕ) (wanted : Bool) (number : Option ℕ) (more : Bytes) (s : State) → last < 10 ^ 64 → IsGiven last wanted number →
+    s.text ≡ word ++ (optional number ++ (codes "\n" ++ more)) → Reads (given_line_at word last wanted s) number more s
+unfolding given_line_at
+given_line-reads word last wanted number more s fits given h =
+    reads-skip word _ _ number more s h (λ a p.
+    reads-then (given_at last wanted a) _ number more a (given-reads last wanted number (codes "\n" ++ more) a fits given refl p) (λ b q.
+    reads-end more _ number more b q (λ c r. reads-ok number more c r)))
+
 pub version-reads : (v : ℕ) (more : Bytes) (s : State) → IsBetween 1 LAST_VERSION v → s.text ≡ version_line v ++ more → Reads (version_line_at s) v more s
 unfolding version_line_at
 version-reads v more s range h =
     let cut : s.text ≡ codes "chisel " ++ (decimal v ++ (codes "\n" ++ more)) = h ∙ simp append_assoc in
-    reads-skip (codes "chisel ") _ _ v more s cut (λ a p.
-    reads-then (number_at 1 LAST_VERSION a) _ v more a (reads-number 1 LAST_VERSION v (codes "\n" ++ more) a range (omega arith) refl p) (λ b q.
-    reads-end more _ v more b q (λ c r. reads-ok v more c r)))
+    counted_line-reads (codes "chisel ") 1 LAST_VERSION v more s range (omega arith) cut
 
 pub size-reads : (d r : ℕ) (more : Bytes) (s : State) → IsBetween 1 MOST_DECISIONS d → IsBetween 1 MOST_ROWS r → s.text ≡ size_line d r ++ more → Reads (size_line_at s) (d, r) more s
 unfolding size_line_at
 size-reads d r more s decisions rows h =
     let cut : s.text ≡ codes "size " ++ (decimal d ++ (codes " " ++ (decimal r ++ (codes "\n" ++ more)))) = h ∙ simp append_assoc in
-    reads-skip (codes "size ") _ _ (d, r) more s cut (λ a p.
-    reads-then (number_at 1 MOST_DECISIONS a) _ (d, r) more a (reads-number 1 MOST_DECISIONS d _ a decisions (omega arith) refl p) (λ b q.
-    reads-skip (codes " ") _ _ (d, r) more b q (λ c t.
-    reads-then (number_at 1 MOST_ROWS c) _ (d, r) more c (reads-number 1 MOST_ROWS r _ c rows (omega arith) refl t) (λ e u.
-    reads-end more _ (d, r) more e u (λ f v. reads-ok (d, r) more f v)))))
+    reads-then (labelled_at (codes "size ") 1 MOST_DECISIONS s) _ (d, r) more s
+    (labelled-reads (codes "size ") 1 MOST_DECISIONS d (codes " " ++ (decimal r ++ (codes "\n" ++ more))) s decisions (omega arith) refl cut) (λ a p.
+    reads-then (counted_line_at (codes " ") 1 MOST_ROWS a) _ (d, r) more a (counted_line-reads (codes " ") 1 MOST_ROWS r more a rows (omega arith) p) (λ b q.
+    reads-ok (d, r) more b q))
 
 -- the word of a choice isn't the one of none
 options-choice : (options : List ℕ) (more : Bytes) (s : State) → AllByRecursion (λ n. n ≤ LAST_OPTION) options → s.text ≡ choice_line (Some options) ++ more → 1 ≤ length options →
@@ -223,9 +274,7 @@ pub energy-reads : (chosen : Bool) (energy : Option ℕ) (more : Bytes) (s : Sta
 unfolding energy_line_at
 energy-reads chosen energy more s given h =
     let cut : s.text ≡ codes "energy " ++ (optional energy ++ (codes "\n" ++ more)) = h ∙ simp append_assoc in
-    reads-skip (codes "energy ") _ _ energy more s cut (λ a p.
-    reads-then (given_at MOST_ENERGY chosen a) _ energy more a (given-reads MOST_ENERGY chosen energy (codes "\n" ++ more) a (omega arith) given refl p) (λ b q.
-    reads-end more _ energy more b q (λ c r. reads-ok energy more c r)))
+    given_line-reads (codes "energy ") MOST_ENERGY chosen energy more s (omega arith) given cut
 
 row-reads : (chosen : Bool) (row : Restated) (more : Bytes) (s : State) → IsRestated chosen row → s.text ≡ row_line row ++ more → Reads (row_line_at chosen s) row more s
 unfolding row_line_at
@@ -233,9 +282,8 @@ row-reads chosen row more s range h =
     let cut : s.text ≡ codes "row " ++ (signed_decimal row.budget ++ (codes " " ++ (optional row.spent ++ (codes "\n" ++ more)))) = h ∙ simp append_assoc in
     reads-skip (codes "row ") _ _ row more s cut (λ a p.
     reads-then (signed_at a) _ row more a (signed-reads row.budget _ a (range.least, range.greatest) refl p) (λ b q.
-    reads-skip (codes " ") _ _ row more b q (λ c t.
-    reads-then (given_at MOST_DEBITS chosen c) _ row more c (given-reads MOST_DEBITS chosen row.spent _ c (omega arith) range.spent refl t) (λ d u.
-    reads-end more _ row more d u (λ e v. reads-ok row more e v)))))
+    reads-then (given_line_at (codes " ") MOST_DEBITS chosen b) _ row more b (given_line-reads (codes " ") MOST_DEBITS chosen row.spent more b (omega arith) range.spent q) (λ c t.
+    reads-ok row more c t)))
 
 pub rows-reads : (chosen : Bool) (rows : List Restated) (more : Bytes) (s : State) → AllByRecursion (IsRestated chosen) rows → s.text ≡ row_lines rows ++ more →
     Reads (each_at (row_line_at chosen) (length rows) s) rows more s
@@ -247,9 +295,7 @@ pool-reads : (n : ℕ) (more : Bytes) (s : State) → IsBetween 1 MOST_VECTORS n
 unfolding pool_line_at
 pool-reads n more s range h =
     let cut : s.text ≡ codes "pool " ++ (decimal n ++ (codes "\n" ++ more)) = h ∙ simp append_assoc in
-    reads-skip (codes "pool ") _ _ n more s cut (λ a p.
-    reads-then (number_at 1 MOST_VECTORS a) _ n more a (reads-number 1 MOST_VECTORS n (codes "\n" ++ more) a range (omega arith) refl p) (λ b q.
-    reads-end more _ n more b q (λ c r. reads-ok n more c r)))
+    counted_line-reads (codes "pool ") 1 MOST_VECTORS n more s range (omega arith) cut
 
 vector-reads : (rows : ℕ) (vector : List ℕ) (more : Bytes) (s : State) → 1 ≤ rows → IsMultipliers rows vector → s.text ≡ vector_line vector ++ more → Reads (vector_line_at rows s) vector more s
 unfolding vector_line_at

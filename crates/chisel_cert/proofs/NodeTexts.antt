@@ -10,13 +10,13 @@ use Rattle.chisel_cert.specs.declared.fault.CertWhy.TheVariants as why
 use Rattle.chisel_cert.specs.declared.limits.TheConstants.{MOST_MULTIPLIER, LAST_DECISION, MOST_CHILDREN, LAST_INDEX}
 use Rattle.chisel_cert.specs.Tree.{Closing, pooled, own, Tree, leaf, branch, Trees, nil, cons, count, nodes, nodes_of}
 use Rattle.chisel_cert.specs.Text.{spaced, letter, leaf_line, branch_line, node_lines, all_lines}
-use Rattle.chisel_cert.specs.Ranges.{has_vector, IsBetween, IsClosing, IsNode, AreNodes}
+use Rattle.chisel_cert.specs.Ranges.{has_vector, AreUpTo, IsBetween, IsClosing, IsNode, AreNodes}
 use Rattle.chisel_cert.specs.State.{State, Reading, Read, ◌>>=◌, formless, skip_at, line_end_at, number_at, each_at}
-use Rattle.chisel_cert.specs.Lines.{spaced_at}
-use Rattle.chisel_cert.specs.Reading.{Line, forked, closed, rule_at, own_at, leaf_line_at, branch_line_at, node_line_at, children_of, counted_at, node_at, grown, trees_at, tree_at}
+use Rattle.chisel_cert.specs.Lines.{number_line_at, counted_line_at, spaced_at}
+use Rattle.chisel_cert.specs.Reading.{Line, forked, closed, rule_at, own_at, own_line_at, leaf_line_at, branch_line_at, node_line_at, children_of, counted_at, node_at, grown, trees_at, tree_at}
 use Rattle.chisel_cert.proofs.Numbers.{decimal-digit}
 use Rattle.chisel_cert.proofs.Readings.{On, on-ok, on-err, on-then, on-choose, on-if, Says, ◌⨾◌, says-as, skip-says, line_end-says, number-says, skip-other, Reads, reads-ok, reads-then, reads-skip, reads-choose, reads-other, reads-end, reads-number}
-use Rattle.chisel_cert.proofs.LineTexts.{all_spaced-says, all_spaced-reads}
+use Rattle.chisel_cert.proofs.LineTexts.{joins, number_line-says, counted_line-says, all_spaced-says, number_line-reads, counted_line-reads, all_spaced-reads}
 
 -- ---- what a line says
 
@@ -49,23 +49,31 @@ own-says version rule s =
         On r (λ a. Says (codes "own") ((version ≡ 2) × IsTrue (has_vector rule)) s a)
     on-then-state h f = record { at = λ a e. says-as (h.at a e) refl (λ _. f) }
 
+own_line-says : (rows : ℕ) (s : State) → On (own_line_at rows s) (λ x. Says (spaced x.0 ++ codes "\n") (AreUpTo MOST_MULTIPLIER rows x.0) s x.1)
+unfolding own_line_at
+own_line-says rows s =
+    on-then (each_at (spaced_at MOST_MULTIPLIER) rows s) _ _ (all_spaced-says MOST_MULTIPLIER rows s) (λ x p.
+    on-then (line_end_at x.1) _ _ (line_end-says x.1) (λ a q. on-ok _ _ (says-as (p ⨾ q) refl (λ f. f.0))))
+
 leaf-says : (version rows : ℕ) (s : State) → On (leaf_line_at version rows s) (λ x. Says (leaf_line x.0) (IsClosing version rows x.0) s x.1)
 unfolding leaf_line_at
 leaf-says version rows s =
     on-then (rule_at s) _ _ (rule-says s) (λ r p.
     on-choose (own_at version r.0 r.1) _ _ _ (own-says version r.0 r.1)
-    (λ a q. on-then (each_at (spaced_at MOST_MULTIPLIER) rows a) _ _ (all_spaced-says MOST_MULTIPLIER rows a) (λ x t. on-then (line_end_at x.1) _ _ (line_end-says x.1) (λ b u.
-    on-ok _ _ (says-as (p ⨾ q ⨾ t ⨾ u) (ap (λ l. l ++ spaced x.0 ++ codes "\n") (append_assoc (letter r.0) (codes " ") (codes "own")))
-    (λ f. (f.0.0.1.0, f.0.0.1.1, f.0.1))))))
-    (on-then (number_at 0 LAST_INDEX r.1) _ _ (number-says 0 LAST_INDEX r.1) (λ x t. on-then (line_end_at x.1) _ _ (line_end-says x.1) (λ b u.
-    on-ok _ _ (says-as (p ⨾ t ⨾ u) refl (λ f. f.0.1.1))))))
+    (λ a q. on-then (own_line_at rows a) _ _ (own_line-says rows a) (λ x t.
+    on-ok _ _ (says-as (p ⨾ q ⨾ t)
+    (sym (append_assoc (letter r.0 ++ codes " " ++ codes "own") (spaced x.0) (codes "\n"))
+    ∙ ap (λ l. l ++ spaced x.0 ++ codes "\n") (append_assoc (letter r.0) (codes " ") (codes "own")))
+    (λ f. (f.0.1.0, f.0.1.1, f.1)))))
+    (on-then (number_line_at 0 LAST_INDEX r.1) _ _ (number_line-says 0 LAST_INDEX r.1) (λ x t.
+    on-ok _ _ (says-as (p ⨾ t) (sym (append_assoc (letter r.0 ++ codes " ") (decimal x.0) (codes "\n"))) (λ f. f.1.1)))))
 
 branch-says : (s a : State) → Says (codes "b ") (Unit {0}) s a → On (branch_line_at a) (λ x. Says (branch_line x.0.0 x.0.1) ((x.0.0 ≤ LAST_DECISION) × IsBetween 1 MOST_CHILDREN x.0.1) s x.1)
 unfolding branch_line_at
 branch-says s a p =
-    on-then (number_at 0 LAST_DECISION a) _ _ (number-says 0 LAST_DECISION a) (λ d q. on-then (skip_at (codes " ") d.1) _ _ (skip-says (codes " ") d.1) (λ b r.
-    on-then (number_at 1 MOST_CHILDREN b) _ _ (number-says 1 MOST_CHILDREN b) (λ n t. on-then (line_end_at n.1) _ _ (line_end-says n.1) (λ c u.
-    on-ok _ _ (says-as (p ⨾ q ⨾ r ⨾ t ⨾ u) refl (λ f. (f.0.0.0.1.1, f.0.1)))))))
+    on-then (number_at 0 LAST_DECISION a) _ _ (number-says 0 LAST_DECISION a) (λ d q.
+    on-then (counted_line_at (codes " ") 1 MOST_CHILDREN d.1) _ _ (counted_line-says (codes " ") 1 MOST_CHILDREN d.1) (λ n r.
+    on-ok _ _ (says-as (p ⨾ q ⨾ r) (joins (codes "b " ++ decimal d.0) (codes " ") (decimal n.0) (codes "\n")) (λ f. (f.0.1.1, f.1)))))
 
 node_line-says : (version rows : ℕ) (s : State) → On (node_line_at version rows s) (λ x. Says (line_text x.0) (IsLine version rows x.0) s x.1)
 unfolding node_line_at
@@ -248,6 +256,14 @@ own-taken version rule s two has = go (version == 2 && has_vector rule) (and_fro
     go true e = refl
     go false e = absurd (cc)
 
+own_line-reads : (rows : ℕ) (vector : List ℕ) (more : Bytes) (s : State) → AreUpTo MOST_MULTIPLIER rows vector →
+    s.text ≡ spaced vector ++ (codes "\n" ++ more) → Reads (own_line_at rows s) vector more s
+unfolding own_line_at
+own_line-reads rows vector more s all h =
+    reads-then (each_at (spaced_at MOST_MULTIPLIER) rows s) _ vector more s
+    (rw (sym all.0) (all_spaced-reads MOST_MULTIPLIER vector (codes "\n" ++ more) s (omega arith) all.1 refl h)) (λ a p.
+    reads-end more _ vector more a p (λ b q. reads-ok vector more b q))
+
 leaf-reads : (version rows : ℕ) (closing : Closing) (more : Bytes) (s : State) → IsClosing version rows closing → s.text ≡ leaf_line closing ++ more →
     Reads (leaf_line_at version rows s) closing more s
 unfolding leaf_line_at
@@ -255,25 +271,23 @@ leaf-reads version rows (pooled close) more s few h =
     let cut : s.text ≡ letter close.rule ++ (codes " " ++ (decimal close.index ++ (codes "\n" ++ more))) = h ∙ simp append_assoc in
     reads-then (rule_at s) _ (pooled close) more s (rule-reads close.rule _ s cut) (λ a p.
     reads-other (own_at version close.rule a) _ _ (formless a) (pooled close) more a (own-refused version close.rule close.index _ a (omega (arith, few)) p)
-    (reads-then (number_at 0 LAST_INDEX a) _ (pooled close) more a (reads-number 0 LAST_INDEX close.index _ a (omega arith, few) (omega arith) refl p) (λ b q.
-    reads-end more _ (pooled close) more b q (λ c r. reads-ok (pooled close) more c r))))
+    (reads-then (number_line_at 0 LAST_INDEX a) _ (pooled close) more a (number_line-reads 0 LAST_INDEX close.index more a (omega arith, few) (omega arith) p) (λ b q.
+    reads-ok (pooled close) more b q)))
 leaf-reads version rows (own rule vector) more s h e =
     let cut : s.text ≡ letter rule ++ (codes " " ++ (codes "own" ++ (spaced vector ++ (codes "\n" ++ more)))) = e ∙ simp append_assoc in
     reads-then (rule_at s) _ (own rule vector) more s (rule-reads rule _ s cut) (λ a p.
     rw (own-taken version rule a h.0 h.1)
     (reads-choose (codes "own") _ _ _ (own rule vector) more a p (λ b q.
-    reads-then (each_at (spaced_at MOST_MULTIPLIER) rows b) _ (own rule vector) more b
-    (rw (sym h.2.0) (all_spaced-reads MOST_MULTIPLIER vector (codes "\n" ++ more) b (omega arith) h.2.1 refl q)) (λ c t.
-    reads-end more _ (own rule vector) more c t (λ d u. reads-ok (own rule vector) more d u)))))
+    reads-then (own_line_at rows b) _ (own rule vector) more b (own_line-reads rows vector more b h.2 q) (λ c t.
+    reads-ok (own rule vector) more c t))))
 
 branch-reads : (d n : ℕ) (more : Bytes) (s : State) → d ≤ LAST_DECISION → IsBetween 1 MOST_CHILDREN n → s.text ≡ decimal d ++ (codes " " ++ (decimal n ++ (codes "\n" ++ more))) →
     Reads (branch_line_at s) (d, n) more s
 unfolding branch_line_at
 branch-reads d n more s few some h =
     reads-then (number_at 0 LAST_DECISION s) _ (d, n) more s (reads-number 0 LAST_DECISION d _ s (omega arith, few) (omega arith) refl h) (λ a p.
-    reads-skip (codes " ") _ _ (d, n) more a p (λ b q.
-    reads-then (number_at 1 MOST_CHILDREN b) _ (d, n) more b (reads-number 1 MOST_CHILDREN n _ b some (omega arith) refl q) (λ c r.
-    reads-end more _ (d, n) more c r (λ e t. reads-ok (d, n) more e t))))
+    reads-then (counted_line_at (codes " ") 1 MOST_CHILDREN a) _ (d, n) more a (counted_line-reads (codes " ") 1 MOST_CHILDREN n more a some (omega arith) p) (λ b q.
+    reads-ok (d, n) more b q))
 
 pooled-first : (rule : CloseRule) (n : ℕ) (more : Bytes) → get_or (leaf_line (pooled (record { rule = rule; index = n })) ++ more) 0 0 ≡ 98 → ⊥
 pooled-first C n more e = omega (arith, e)

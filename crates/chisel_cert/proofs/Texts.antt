@@ -1,5 +1,5 @@
 -- Texts and certificates are one to one.
-use Rattle.std.proofs.Common.{◌≡◌, ℕ, ◌+◌, ◌≤◌, [], ◌++◌, Ok, Err, refl, sym, ap, ◌∙◌, arith, append_assoc, append-nil}
+use Rattle.std.proofs.Common.{◌≡◌, ℕ, ◌≤◌, [], ◌++◌, Ok, Err, refl, sym, ap, ◌∙◌, arith, append_assoc, append-nil}
 use Rattle.std.specs.Prelude.{codes, decimal, is_some, if◌then◌else◌}
 use Rattle.std.proofs.lemmas.Slice.Eq.{bytes_eq-Decides}
 use Rattle.rely_num.specs.Texts.{Bytes, same_text}
@@ -8,12 +8,12 @@ use Rattle.chisel_cert.specs.declared.limits.TheConstants.{LAST_VERSION, MOST_DE
 use Rattle.chisel_cert.specs.Tree.{Tree, nodes, Certificate}
 use Rattle.chisel_cert.specs.Text.{version_line, size_line, choice_line, energy_line, row_lines, pool_lines, tree_line, node_lines, end_line, head_lines, table_lines, tree_lines, text_of}
 use Rattle.chisel_cert.specs.Ranges.{restated_count, IsBetween, IsChosen, IsGiven, IsNode, IsWithin}
-use Rattle.chisel_cert.specs.State.{State, ◌>>=◌, formless, with_text, skip_at, line_end_at, number_at, each_at}
-use Rattle.chisel_cert.specs.Lines.{version_line_at, size_line_at, choice_line_at, energy_line_at, row_line_at, vectors_at}
+use Rattle.chisel_cert.specs.State.{State, ◌>>=◌, formless, with_text, skip_at, line_end_at, each_at}
+use Rattle.chisel_cert.specs.Lines.{counted_line_at, version_line_at, size_line_at, choice_line_at, energy_line_at, row_line_at, vectors_at}
 use Rattle.chisel_cert.specs.Reading.{tree_line_at, tree_at, end_line_at, Head, head_at, root_at, start_of, certificate_at}
 use Rattle.chisel_cert.specs.Laws.{WrittenIsRead, ReadIsWritten, NoText}
-use Rattle.chisel_cert.proofs.Readings.{On, on-ok, on-err, on-then, on-if, Says, ◌⨾◌, says-as, skip-says, line_end-says, number-says, then-ok, skip-reads, line_end-reads, number-reads, Reads, reads-ok, reads-then}
-use Rattle.chisel_cert.proofs.LineTexts.{version-says, size-says, choice-says, energy-says, rows-says, vectors-says, version-reads, size-reads, choice-reads, energy-reads, rows-reads, vectors-reads}
+use Rattle.chisel_cert.proofs.Readings.{On, on-ok, on-err, on-then, on-if, Says, ◌⨾◌, says-as, skip-says, line_end-says, then-ok, skip-reads, line_end-reads, Reads, reads-ok, reads-then}
+use Rattle.chisel_cert.proofs.LineTexts.{counted_line-says, version-says, size-says, choice-says, energy-says, rows-says, vectors-says, counted_line-reads, version-reads, size-reads, choice-reads, energy-reads, rows-reads, vectors-reads}
 use Rattle.chisel_cert.proofs.NodeTexts.{tree-says, Grows, some-nodes, tree-reads}
 
 -- ---- what is read is the text
@@ -40,8 +40,8 @@ head-says s =
 tree_line-says : (s : State) → On (tree_line_at s) (λ x. (s.text ≡ tree_line x.0 ++ x.1.text) × IsBetween 1 MOST_NODES x.0 × (x.1.wanted ≡ 1) × (x.1.left ≡ x.0))
 unfolding tree_line_at
 tree_line-says s =
-    on-then (skip_at (codes "tree ") s) _ _ (skip-says (codes "tree ") s) (λ a p. on-then (number_at 1 MOST_NODES a) _ _ (number-says 1 MOST_NODES a) (λ x q.
-    on-then (line_end_at x.1) _ _ (line_end-says x.1) (λ b r. on-ok _ _ ((p ⨾ q ⨾ r).is, q.fact, refl, refl))))
+    on-then (counted_line_at (codes "tree ") 1 MOST_NODES s) _ _ (counted_line-says (codes "tree ") 1 MOST_NODES s) (λ x p.
+    on-ok _ _ (p.is, p.fact, refl, refl))
 
 end-says : (s : State) → On (end_line_at s) (λ a. s.text ≡ end_line)
 unfolding end_line_at
@@ -121,16 +121,12 @@ end-reads s h = (
 tree_line-reads : (n : ℕ) (more : Bytes) (s : State) → IsBetween 1 MOST_NODES n → s.text ≡ tree_line n ++ more → Grows (tree_line_at s) n more 1 n
 unfolding tree_line_at
 tree_line-reads n more s range h =
-    let line : Bytes = codes "\n" ++ more in
-    let cut : s.text ≡ codes "tree " ++ (decimal n ++ line) = h ∙ simp append_assoc in
-    let a : State = with_text s (decimal n ++ line) in
-    let b : State = with_text s line in
+    let cut : s.text ≡ codes "tree " ++ (decimal n ++ (codes "\n" ++ more)) = h ∙ simp append_assoc in
+    let a = counted_line-reads (codes "tree ") 1 MOST_NODES n more s range (omega arith) cut in
     record {
-      rest = record { text = more; line = s.line + 1; wanted = 1; left = n };
-      is = then-ok (skip_at (codes "tree ") s) _ _ _ (skip-reads (codes "tree ") (decimal n ++ line) s cut)
-          (then-ok (number_at 1 MOST_NODES a) _ _ _ (number-reads 1 MOST_NODES n line a range (omega arith) refl refl)
-          (then-ok (line_end_at b) _ _ _ (line_end-reads more b refl) refl));
-      text = refl;
+      rest = record { text = a.rest.text; line = a.rest.line; wanted = 1; left = n };
+      is = then-ok (counted_line_at (codes "tree ") 1 MOST_NODES s) _ _ _ a.is refl;
+      text = a.text;
       wanted_is = refl;
       left_is = refl;
     }

@@ -9,7 +9,7 @@ use Rattle.chisel_cert.specs.declared.limits.TheConstants.{MOST_MULTIPLIER, MOST
 use Rattle.chisel_cert.specs.Tree.{Closing, pooled, own, Tree, leaf, branch, Trees, nil, cons, Certificate}
 use Rattle.chisel_cert.specs.Ranges.{restated_count, has_vector}
 use Rattle.chisel_cert.specs.State.{State, Reading, Read, ◌>>=◌, choose, formless, skip_at, line_end_at, number_at, each_at}
-use Rattle.chisel_cert.specs.Lines.{spaced_at, version_line_at, size_line_at, choice_line_at, energy_line_at, row_line_at, vectors_at}
+use Rattle.chisel_cert.specs.Lines.{number_line_at, counted_line_at, spaced_at, version_line_at, size_line_at, choice_line_at, energy_line_at, row_line_at, vectors_at}
 
 -- ---- a node's line
 
@@ -30,17 +30,21 @@ rule_at s =
 unfoldable pub own_at : ℕ → CloseRule → State → Reading State
 own_at version rule s = if version == 2 && has_vector rule then skip_at (codes "own") s else Err (formless s)
 
+-- so many multipliers at the end of a line
+unfoldable pub own_line_at : ℕ → Read (List ℕ)
+own_line_at rows s = each_at (spaced_at MOST_MULTIPLIER) rows s >>= λ x. line_end_at x.1 >>= λ a. Ok (x.0, a)
+
 unfoldable pub leaf_line_at : ℕ → ℕ → Read Closing
 leaf_line_at version rows s =
     rule_at s >>= λ r.
     choose (own_at version r.0 r.1)
-    (λ a. each_at (spaced_at MOST_MULTIPLIER) rows a >>= λ x. line_end_at x.1 >>= λ b. Ok (own r.0 x.0, b))
-    (number_at 0 LAST_INDEX r.1 >>= λ x. line_end_at x.1 >>= λ b. Ok (pooled (record { rule = r.0; index = x.0 }), b))
+    (λ a. own_line_at rows a >>= λ x. Ok (own r.0 x.0, x.1))
+    (number_line_at 0 LAST_INDEX r.1 >>= λ x. Ok (pooled (record { rule = r.0; index = x.0 }), x.1))
 
 -- a decision and a number of children
 unfoldable pub branch_line_at : Read (ℕ × ℕ)
 branch_line_at s =
-    number_at 0 LAST_DECISION s >>= λ d. skip_at (codes " ") d.1 >>= λ k. number_at 1 MOST_CHILDREN k >>= λ n. line_end_at n.1 >>= λ a. Ok ((d.0, n.0), a)
+    number_at 0 LAST_DECISION s >>= λ d. counted_line_at (codes " ") 1 MOST_CHILDREN d.1 >>= λ n. Ok ((d.0, n.0), n.1)
 
 unfoldable pub node_line_at : ℕ → ℕ → Read Line
 node_line_at version rows s =
@@ -91,8 +95,8 @@ tree_at version rows (suc depth) s =
 -- the number of nodes; the root is wanted, and all lines are left
 unfoldable pub tree_line_at : Read ℕ
 tree_line_at s =
-    skip_at (codes "tree ") s >>= λ k. number_at 1 MOST_NODES k >>= λ x. line_end_at x.1 >>= λ a.
-    Ok (x.0, record { text = a.text; line = a.line; wanted = 1; left = x.0 })
+    counted_line_at (codes "tree ") 1 MOST_NODES s >>= λ x.
+    Ok (x.0, record { text = x.1.text; line = x.1.line; wanted = 1; left = x.0 })
 
 -- the last line, behind which nothing may stand
 unfoldable pub end_line_at : State → Reading State

@@ -2,7 +2,8 @@
 ghost use Rattle.std.specs.Prelude.{◌≡◌, ◌+◌, ◌^◌, ◌<◌, ◌≤◌, option_copied, IfOk, IfSome};
 ghost use Rattle.chisel_cert.specs.Node.{vectors_of};
 ghost use Rattle.chisel_cert.specs.State.{state_of, IsInLine, IsNextLine, IsRead, IsReadBy, each_at, more_at};
-ghost use Rattle.chisel_cert.specs.Lines.{spaced_at, given_at, signed_at, version_line_at, size_line_at, options_line_at, choice_line_at, energy_line_at, row_line_at, pool_line_at, vector_line_at, vectors_at};
+ghost use Rattle.chisel_cert.specs.Ranges.{IsBetween};
+ghost use Rattle.chisel_cert.specs.Lines.{labelled_at, number_line_at, counted_line_at, listed_at, given_line_at, spaced_at, given_at, signed_at, version_line_at, size_line_at, options_line_at, choice_line_at, energy_line_at, row_line_at, pool_line_at, vector_line_at, vectors_at};
 
 use crate::cert::Restated;
 use crate::fault::CertFault;
@@ -14,16 +15,68 @@ use crate::rest::{Rest, line_end, number, skip};
 use bumpalo::Bump;
 use bumpalo::collections::into_bump_slice;
 
+/// A number behind a word.
+#[tactic(auto, unfolding(crate::specs::Lines::labelled_at))]
+fn labelled<'t>(
+    at: Rest<'t>,
+    word: &[u8],
+    first: u128,
+    last: u128,
+) -> Result<(u128, Rest<'t>), CertFault>
+    requires { last < 2 ^ 72 }
+    ensures reads { IsRead (labelled_at word.now first last) at.entry result }
+    ensures within { IfOk result (λ r. IsBetween first last r.0) }
+    ensures line { IfOk result (λ r. IsInLine (state_of at.entry) (state_of r.1)) }
+{
+    let rest = skip(at, word)?;
+    number(rest, first, last)
+}
+
+/// A number at the end of a line.
+#[tactic(auto, unfolding(crate::specs::Lines::number_line_at))]
+pub(crate) fn number_line<'t>(
+    at: Rest<'t>,
+    first: u128,
+    last: u128,
+) -> Result<(u128, Rest<'t>), CertFault>
+    requires line { at.line ≤ MOST_LINES }
+    requires last { last < 2 ^ 72 }
+    ensures reads { IsRead (number_line_at first last) at.entry result }
+    ensures within { IfOk result (λ r. IsBetween first last r.0) }
+    ensures line { IfOk result (λ r. IsNextLine (state_of at.entry) (state_of r.1)) }
+{
+    let (number, rest) = number(at, first, last)?;
+    let rest = line_end(rest)?;
+    Ok((number, rest))
+}
+
+/// A number behind a word at the end of a line.
+#[tactic(auto, unfolding(crate::specs::Lines::counted_line_at))]
+pub(crate) fn counted_line<'t>(
+    at: Rest<'t>,
+    word: &[u8],
+    first: u128,
+    last: u128,
+) -> Result<(u128, Rest<'t>), CertFault>
+    requires line { at.line ≤ MOST_LINES }
+    requires last { last < 2 ^ 72 }
+    ensures reads { IsRead (counted_line_at word.now first last) at.entry result }
+    ensures within { IfOk result (λ r. IsBetween first last r.0) }
+    ensures line { IfOk result (λ r. IsNextLine (state_of at.entry) (state_of r.1)) }
+{
+    let rest = skip(at, word)?;
+    number_line(rest, first, last)
+}
+
 /// A number behind a blank.
-#[tactic(auto, unfolding(crate::specs::Lines::spaced_at))]
+#[tactic(auto, unfolding(crate::specs::Lines::labelled_at, crate::specs::Lines::spaced_at))]
 pub(crate) fn spaced<'t>(at: Rest<'t>, last: u128) -> Result<(u128, Rest<'t>), CertFault>
     requires { last < 2 ^ 72 }
     ensures reads { IsRead (spaced_at last) at.entry result }
     ensures within { IfOk result (λ r. r.0 ≤ last) }
     ensures line { IfOk result (λ r. IsInLine (state_of at.entry) (state_of r.1)) }
 {
-    let rest = skip(at, b" ")?;
-    number(rest, 0, last)
+    labelled(at, b" ", 0, last)
 }
 
 /// So many multipliers more, each behind a blank.
@@ -81,6 +134,26 @@ fn given<'t>(at: Rest<'t>, last: u128, wanted: bool) -> Result<(Option<u128>, Re
     }
 }
 
+/// The same behind a word at the end of a line.
+#[tactic(auto, unfolding(crate::specs::Lines::given_line_at))]
+fn given_line<'t>(
+    at: Rest<'t>,
+    word: &[u8],
+    last: u128,
+    wanted: bool,
+) -> Result<(Option<u128>, Rest<'t>), CertFault>
+    requires line { at.line ≤ MOST_LINES }
+    requires last { last < 2 ^ 72 }
+    ensures reads { IsRead (given_line_at word.now last wanted) at.entry result }
+    ensures within { IfOk result (λ r. IfSome r.0 (λ n. n ≤ last)) }
+    ensures line { IfOk result (λ r. IsNextLine (state_of at.entry) (state_of r.1)) }
+{
+    let rest = skip(at, word)?;
+    let (number, rest) = given(rest, last, wanted)?;
+    let rest = line_end(rest)?;
+    Ok((number, rest))
+}
+
 /// A budget: a sign and a number that isn't 0, or a number.
 #[tactic(auto, unfolding(crate::specs::Lines::signed_at))]
 fn signed<'t>(at: Rest<'t>) -> Result<(i128, Rest<'t>), CertFault>
@@ -101,9 +174,7 @@ pub(crate) fn version_line<'t>(at: Rest<'t>) -> Result<(u8, Rest<'t>), CertFault
     ensures reads { IsRead version_line_at at.entry result }
     ensures line { IfOk result (λ r. IsNextLine (state_of at.entry) (state_of r.1)) }
 {
-    let rest = skip(at, b"chisel ")?;
-    let (version, rest) = number(rest, 1, LAST_VERSION)?;
-    let rest = line_end(rest)?;
+    let (version, rest) = counted_line(at, b"chisel ", 1, LAST_VERSION)?;
     Ok((version as u8, rest))
 }
 
@@ -115,11 +186,8 @@ pub(crate) fn size_line<'t>(at: Rest<'t>) -> Result<((u32, u32), Rest<'t>), Cert
     ensures rows { IfOk result (λ r. r.0.1 ≤ MOST_ROWS) }
     ensures line { IfOk result (λ r. IsNextLine (state_of at.entry) (state_of r.1)) }
 {
-    let rest = skip(at, b"size ")?;
-    let (decisions, rest) = number(rest, 1, MOST_DECISIONS)?;
-    let rest = skip(rest, b" ")?;
-    let (rows, rest) = number(rest, 1, MOST_ROWS)?;
-    let rest = line_end(rest)?;
+    let (decisions, rest) = labelled(at, b"size ", 1, MOST_DECISIONS)?;
+    let (rows, rest) = counted_line(rest, b" ", 1, MOST_ROWS)?;
     Ok(((decisions as u32, rows as u32), rest))
 }
 
@@ -167,9 +235,7 @@ pub(crate) fn energy_line<'t>(
     ensures reads { IsRead (energy_line_at chosen) at.entry result }
     ensures line { IfOk result (λ r. IsNextLine (state_of at.entry) (state_of r.1)) }
 {
-    let rest = skip(at, b"energy ")?;
-    let (energy, rest) = given(rest, MOST_ENERGY, chosen)?;
-    let rest = line_end(rest)?;
+    let (energy, rest) = given_line(at, b"energy ", MOST_ENERGY, chosen)?;
     match energy {
         Some(energy) => Ok((Some(energy as u64), rest)),
         None => Ok((None, rest)),
@@ -184,9 +250,7 @@ fn row_line<'t>(at: Rest<'t>, chosen: bool) -> Result<(Restated, Rest<'t>), Cert
 {
     let rest = skip(at, b"row ")?;
     let (budget, rest) = signed(rest)?;
-    let rest = skip(rest, b" ")?;
-    let (spent, rest) = given(rest, MOST_DEBITS, chosen)?;
-    let rest = line_end(rest)?;
+    let (spent, rest) = given_line(rest, b" ", MOST_DEBITS, chosen)?;
     match spent {
         Some(spent) => Ok((restated(budget, Some(spent as u32)), rest)),
         None => Ok((restated(budget, None), rest)),
@@ -228,14 +292,28 @@ fn pool_line<'t>(at: Rest<'t>) -> Result<(u32, Rest<'t>), CertFault>
     ensures few { IfOk result (λ r. r.0 ≤ MOST_VECTORS) }
     ensures line { IfOk result (λ r. IsNextLine (state_of at.entry) (state_of r.1)) }
 {
-    let rest = skip(at, b"pool ")?;
-    let (count, rest) = number(rest, 1, MOST_VECTORS)?;
-    let rest = line_end(rest)?;
+    let (count, rest) = counted_line(at, b"pool ", 1, MOST_VECTORS)?;
     Ok((count as u32, rest))
 }
 
+/// So many multipliers with a blank between two.
+#[tactic(auto, unfolding(crate::specs::Lines::listed_at))]
+fn listed<'a, 't>(
+    arena: &'a Bump,
+    at: Rest<'t>,
+    count: u32,
+) -> Result<(&'a [u64], Rest<'t>), CertFault>
+    ensures reads { IsReadBy (λ x. x.now) (listed_at MOST_MULTIPLIER count) at.entry result }
+    ensures line { IfOk result (λ r. IsInLine (state_of at.entry) (state_of r.1)) }
+{
+    let (first, rest) = number(at, 0, MOST_MULTIPLIER)?;
+    let mut all = Vec::new(arena);
+    all.push(first as u64)?;
+    multipliers(all, rest, count.saturating_sub(1))
+}
+
 /// A vector with a multiplier for each row.
-#[tactic(auto, unfolding(crate::specs::Lines::vector_line_at, crate::specs::Lines::listed_at))]
+#[tactic(auto, unfolding(crate::specs::Lines::vector_line_at))]
 fn vector_line<'a, 't>(
     arena: &'a Bump,
     at: Rest<'t>,
@@ -245,10 +323,7 @@ fn vector_line<'a, 't>(
     ensures reads { IsReadBy (λ x. x.now) (vector_line_at rows) at.entry result }
     ensures line { IfOk result (λ r. IsNextLine (state_of at.entry) (state_of r.1)) }
 {
-    let (first, rest) = number(at, 0, MOST_MULTIPLIER)?;
-    let mut all = Vec::new(arena);
-    all.push(first as u64)?;
-    let (vector, rest) = multipliers(all, rest, rows.saturating_sub(1))?;
+    let (vector, rest) = listed(arena, at, rows)?;
     let rest = line_end(rest)?;
     Ok((vector, rest))
 }

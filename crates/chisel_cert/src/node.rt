@@ -3,12 +3,12 @@ ghost use Rattle.std.specs.Prelude.{◌≡◌, ◌+◌, ◌-◌, ◌≤◌, IfOk
 ghost use Rattle.chisel_cert.specs.Node.{closing_of, tree_of, line_of};
 ghost use Rattle.chisel_cert.specs.Ranges.{has_vector};
 ghost use Rattle.chisel_cert.specs.State.{state_of, IsInLine, IsNextLine, IsPassed, IsRead, IsReadBy};
-ghost use Rattle.chisel_cert.specs.Reading.{rule_at, own_at, leaf_line_at, branch_line_at, node_line_at, children_of, counted_at, node_at, tree_at, IsCounted};
+ghost use Rattle.chisel_cert.specs.Reading.{rule_at, own_at, own_line_at, leaf_line_at, branch_line_at, node_line_at, children_of, counted_at, node_at, tree_at, IsCounted};
 
 use crate::cert::{Mark, Node};
 use crate::fault::{CertFault, CertWhy};
 use crate::limits::{LAST_DECISION, LAST_INDEX, MOST_CHILDREN, MOST_LINES};
-use crate::lines::multipliers;
+use crate::lines::{counted_line, multipliers, number_line};
 use crate::rest::{Rest, formless, line_end, number, skip};
 use bumpalo::Bump;
 use bumpalo::collections::into_bump_slice;
@@ -70,7 +70,23 @@ fn own<'t>(at: Rest<'t>, version: u8, rule: CloseRule) -> Result<Rest<'t>, CertF
     }
 }
 
-#[tactic(auto, using(crate::proofs::Each::behind_none), unfolding(crate::specs::Reading::leaf_line_at))]
+/// So many multipliers at the end of a line.
+#[tactic(auto, using(crate::proofs::Each::behind_none), unfolding(crate::specs::Reading::own_line_at))]
+fn own_line<'a, 't>(
+    arena: &'a Bump,
+    at: Rest<'t>,
+    rows: u32,
+) -> Result<(&'a [u64], Rest<'t>), CertFault>
+    requires { at.line ≤ MOST_LINES }
+    ensures reads { IsReadBy (λ x. x.now) (own_line_at rows) at.entry result }
+    ensures line { IfOk result (λ r. IsNextLine (state_of at.entry) (state_of r.1)) }
+{
+    let (vector, rest) = multipliers(Vec::new(arena), at, rows)?;
+    let rest = line_end(rest)?;
+    Ok((vector, rest))
+}
+
+#[tactic(auto, unfolding(crate::specs::Reading::leaf_line_at))]
 fn leaf_line<'a, 't>(
     arena: &'a Bump,
     at: Rest<'t>,
@@ -82,12 +98,10 @@ fn leaf_line<'a, 't>(
 {
     let (rule, rest) = rule(at)?;
     if let Ok(rest) = own(rest, format.version, rule) {
-        let (vector, rest) = multipliers(Vec::new(arena), rest, format.rows)?;
-        let rest = line_end(rest)?;
+        let (vector, rest) = own_line(arena, rest, format.rows)?;
         return Ok((Mark::Own(rule, vector), rest));
     }
-    let (index, rest) = number(rest, 0, LAST_INDEX)?;
-    let rest = line_end(rest)?;
+    let (index, rest) = number_line(rest, 0, LAST_INDEX)?;
     let index = index as u32;
     Ok((Mark::Pool(Close { rule, index }), rest))
 }
@@ -101,9 +115,7 @@ fn branch_line<'t>(at: Rest<'t>) -> Result<((u32, u32), Rest<'t>), CertFault>
     ensures line { IfOk result (λ r. IsNextLine (state_of at.entry) (state_of r.1)) }
 {
     let (decision, rest) = number(at, 0, LAST_DECISION)?;
-    let rest = skip(rest, b" ")?;
-    let (children, rest) = number(rest, 1, MOST_CHILDREN)?;
-    let rest = line_end(rest)?;
+    let (children, rest) = counted_line(rest, b" ", 1, MOST_CHILDREN)?;
     Ok(((decision as u32, children as u32), rest))
 }
 

@@ -10,9 +10,11 @@ ghost use Rattle.chisel_cert.specs.Reading.{head_at, tree_line_at, end_line_at, 
 use crate::cert::{Cert, Node};
 use crate::fault::CertFault;
 use crate::limits::{MOST_DEPTH, MOST_LINES, MOST_NODES, MOST_ROWS};
-use crate::lines::{choice_line, energy_line, row_lines, size_line, vector_lines, version_line};
+use crate::lines::{
+    choice_line, counted_line, energy_line, row_lines, size_line, vector_lines, version_line,
+};
 use crate::node::{Format, tree};
-use crate::rest::{Rest, formless, line_end, number, skip};
+use crate::rest::{Rest, formless, line_end, skip};
 use bumpalo::Bump;
 use std::alloc::Global;
 
@@ -23,9 +25,7 @@ fn tree_line<'t>(at: Rest<'t>) -> Result<(u32, Rest<'t>), CertFault>
     ensures reads { IsRead tree_line_at at.entry result }
     ensures counted { IfOk result (λ r. IsCounted (state_of r.1)) }
 {
-    let rest = skip(at, b"tree ")?;
-    let (nodes, rest) = number(rest, 1, MOST_NODES)?;
-    let rest = line_end(rest)?;
+    let (nodes, rest) = counted_line(at, b"tree ", 1, MOST_NODES)?;
     let left = nodes as u32;
     Ok((
         left,

@@ -12,8 +12,23 @@ fn number(out: &mut Vec<u8>, n: u64) -> Result<(), AllocError>
     ensures { OnOk result (out.new.items ≡ out.old.items ++ decimal n) }
 {
     let mut buffer = Buffer::new();
-    out.extend_from_slice(buffer.format(n).as_bytes())?;
-    Ok(())
+    out.extend_from_slice(buffer.format(n).as_bytes())
+}
+
+/// A word and a number.
+fn labelled(out: &mut Vec<u8>, word: &[u8], n: u64) -> Result<(), AllocError>
+    ensures { OnOk result (out.new.items ≡ out.old.items ++ word.now ++ decimal n) }
+{
+    out.extend_from_slice(word)?;
+    number(out, n)
+}
+
+/// A word and the last number of a line.
+fn counted_line(out: &mut Vec<u8>, word: &[u8], n: u64) -> Result<(), AllocError>
+    ensures { OnOk result (out.new.items ≡ out.old.items ++ word.now ++ decimal n ++ codes "\n") }
+{
+    labelled(out, word, n)?;
+    out.extend_from_slice(b"\n")
 }
 
 fn optional(out: &mut Vec<u8>, n: Option<u64>) -> Result<(), AllocError>
@@ -30,8 +45,7 @@ fn spaced(out: &mut Vec<u8>, ns: &[u64]) -> Result<(), AllocError>
     ensures { OnOk result (out.new.items ≡ out.old.items ++ spaced ns.now) }
 {
     for n in ns {
-        out.extend_from_slice(b" ")?;
-        number(out, *n)?;
+        labelled(out, b" ", *n)?;
     }
     Ok(())
 }
@@ -40,8 +54,7 @@ fn spaced_options(out: &mut Vec<u8>, options: &[u8]) -> Result<(), AllocError>
     ensures { OnOk result (out.new.items ≡ out.old.items ++ spaced options.now) }
 {
     for option in options {
-        out.extend_from_slice(b" ")?;
-        number(out, u64::from(*option))?;
+        labelled(out, b" ", u64::from(*option))?;
     }
     Ok(())
 }
@@ -53,14 +66,9 @@ fn choice_line(out: &mut Vec<u8>, choice: Option<&[u8]>) -> Result<(), AllocErro
         Some(options) => {
             out.extend_from_slice(b"choice")?;
             spaced_options(out, options)?;
-            out.extend_from_slice(b"\n")?;
-            Ok(())
+            out.extend_from_slice(b"\n")
         }
-        None => {
-            out.extend_from_slice(b"choice none")?;
-            out.extend_from_slice(b"\n")?;
-            Ok(())
-        }
+        None => out.extend_from_slice(b"choice none\n"),
     }
 }
 
@@ -69,28 +77,20 @@ fn energy_line(out: &mut Vec<u8>, energy: Option<u64>) -> Result<(), AllocError>
 {
     out.extend_from_slice(b"energy ")?;
     optional(out, energy)?;
-    out.extend_from_slice(b"\n")?;
-    Ok(())
+    out.extend_from_slice(b"\n")
 }
 
 fn version_line(out: &mut Vec<u8>, version: u8) -> Result<(), AllocError>
     ensures { OnOk result (out.new.items ≡ out.old.items ++ version_line version) }
 {
-    out.extend_from_slice(b"chisel ")?;
-    number(out, u64::from(version))?;
-    out.extend_from_slice(b"\n")?;
-    Ok(())
+    counted_line(out, b"chisel ", u64::from(version))
 }
 
 fn size_line(out: &mut Vec<u8>, decisions: u32, rows: u32) -> Result<(), AllocError>
     ensures { OnOk result (out.new.items ≡ out.old.items ++ size_line decisions rows) }
 {
-    out.extend_from_slice(b"size ")?;
-    number(out, u64::from(decisions))?;
-    out.extend_from_slice(b" ")?;
-    number(out, u64::from(rows))?;
-    out.extend_from_slice(b"\n")?;
-    Ok(())
+    labelled(out, b"size ", u64::from(decisions))?;
+    counted_line(out, b" ", u64::from(rows))
 }
 
 #[tactic(auto, unfolding(crate::specs::Text::head_lines))]
@@ -100,8 +100,7 @@ fn head_lines(out: &mut Vec<u8>, c: &Cert<'_>) -> Result<(), AllocError>
     version_line(out, c.version)?;
     size_line(out, c.decisions, c.rows)?;
     choice_line(out, c.choice)?;
-    energy_line(out, c.energy)?;
-    Ok(())
+    energy_line(out, c.energy)
 }
 
 fn row_line(out: &mut Vec<u8>, row: &Restated) -> Result<(), AllocError>
@@ -112,8 +111,7 @@ fn row_line(out: &mut Vec<u8>, row: &Restated) -> Result<(), AllocError>
     out.extend_from_slice(buffer.format(row.budget).as_bytes())?;
     out.extend_from_slice(b" ")?;
     spent(out, row.spent)?;
-    out.extend_from_slice(b"\n")?;
-    Ok(())
+    out.extend_from_slice(b"\n")
 }
 
 fn spent(out: &mut Vec<u8>, spent: Option<u32>) -> Result<(), AllocError>
@@ -142,8 +140,7 @@ fn listed(out: &mut Vec<u8>, ns: &[u64]) -> Result<(), AllocError>
         [] => Ok(()),
         [first, others @ ..] => {
             number(out, *first)?;
-            spaced(out, others)?;
-            Ok(())
+            spaced(out, others)
         }
     }
 }
@@ -152,8 +149,7 @@ fn vector_line(out: &mut Vec<u8>, vector: &[u64]) -> Result<(), AllocError>
     ensures { OnOk result (out.new.items ≡ out.old.items ++ vector_line vector.now) }
 {
     listed(out, vector)?;
-    out.extend_from_slice(b"\n")?;
-    Ok(())
+    out.extend_from_slice(b"\n")
 }
 
 fn vector_lines(out: &mut Vec<u8>, vectors: &[&[u64]]) -> Result<(), AllocError>
@@ -170,11 +166,8 @@ fn table_lines(out: &mut Vec<u8>, c: &Cert<'_>) -> Result<(), AllocError>
     ensures { OnOk result (out.new.items ≡ out.old.items ++ table_lines (certificate_of c.now)) }
 {
     row_lines(out, c.restated)?;
-    out.extend_from_slice(b"pool ")?;
-    number(out, c.pool.len() as u64)?;
-    out.extend_from_slice(b"\n")?;
-    vector_lines(out, c.pool)?;
-    Ok(())
+    counted_line(out, b"pool ", c.pool.len() as u64)?;
+    vector_lines(out, c.pool)
 }
 
 fn letter(rule: CloseRule) -> &'static [u8]
@@ -188,23 +181,26 @@ fn letter(rule: CloseRule) -> &'static [u8]
     }
 }
 
+/// Numbers at the end of a line, each behind a blank.
+fn vector_end(out: &mut Vec<u8>, vector: &[u64]) -> Result<(), AllocError>
+    ensures { OnOk result (out.new.items ≡ out.old.items ++ spaced vector.now ++ codes "\n") }
+{
+    spaced(out, vector)?;
+    out.extend_from_slice(b"\n")
+}
+
 fn leaf_line(out: &mut Vec<u8>, mark: Mark<'_>) -> Result<(), AllocError>
     ensures { OnOk result (out.new.items ≡ out.old.items ++ leaf_line (closing_of mark.entry)) }
 {
     match mark {
         Mark::Pool(close) => {
             out.extend_from_slice(letter(close.rule))?;
-            out.extend_from_slice(b" ")?;
-            number(out, u64::from(close.index))?;
-            out.extend_from_slice(b"\n")?;
-            Ok(())
+            counted_line(out, b" ", u64::from(close.index))
         }
         Mark::Own(rule, vector) => {
             out.extend_from_slice(letter(rule))?;
             out.extend_from_slice(b" own")?;
-            spaced(out, vector)?;
-            out.extend_from_slice(b"\n")?;
-            Ok(())
+            vector_end(out, vector)
         }
     }
 }
@@ -212,12 +208,8 @@ fn leaf_line(out: &mut Vec<u8>, mark: Mark<'_>) -> Result<(), AllocError>
 fn branch_line(out: &mut Vec<u8>, decision: u32, children: usize) -> Result<(), AllocError>
     ensures { OnOk result (out.new.items ≡ out.old.items ++ branch_line decision children) }
 {
-    out.extend_from_slice(b"b ")?;
-    number(out, u64::from(decision))?;
-    out.extend_from_slice(b" ")?;
-    number(out, children as u64)?;
-    out.extend_from_slice(b"\n")?;
-    Ok(())
+    labelled(out, b"b ", u64::from(decision))?;
+    counted_line(out, b" ", children as u64)
 }
 
 /// A node's line, and those of the nodes below it.
@@ -240,13 +232,9 @@ fn node_lines(out: &mut Vec<u8>, node: &Node<'_>) -> Result<(), AllocError>
 fn tree_lines(out: &mut Vec<u8>, c: &Cert<'_>) -> Result<(), AllocError>
     ensures { OnOk result (out.new.items ≡ out.old.items ++ tree_lines (certificate_of c.now)) }
 {
-    out.extend_from_slice(b"tree ")?;
-    number(out, u64::from(c.nodes))?;
-    out.extend_from_slice(b"\n")?;
+    counted_line(out, b"tree ", u64::from(c.nodes))?;
     node_lines(out, &c.root)?;
-    out.extend_from_slice(b"end")?;
-    out.extend_from_slice(b"\n")?;
-    Ok(())
+    out.extend_from_slice(b"end\n")
 }
 
 /// The text of a certificate, in the version that it names.
