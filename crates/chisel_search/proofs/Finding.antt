@@ -22,7 +22,7 @@ use Rattle.chisel_search.specs.declared.visit.Visit.{Visit}
 use Rattle.chisel_search.specs.Fold.{InLog, IsOver, IsCertified}
 use Rattle.chisel_search.specs.Found.{GoesOn, IsFound, options_in}
 use Rattle.chisel_search.specs.Logs.{Leads, Logged, first_state, state_after, fate_of, decision_of, children_by, count_by, numbers_from}
-use Rattle.chisel_search.specs.Machine.{EachNumbered, IsBegun, IsKnown, IsMachine, IsSearching, IsVisited, best_after, held_options, pool_of, table_of}
+use Rattle.chisel_search.specs.Machine.{EachNumbered, IsBegun, IsEnded, IsKnown, IsMachine, IsSearching, IsVisited, best_after, held_options, pool_of, table_of}
 use Rattle.chisel_search.specs.Printed.{IsPrinted, certified}
 use Rattle.chisel_search.specs.Rules.{Answered, CanBranch, IsRule, IsUnfixed}
 use Rattle.chisel_search.specs.Search.{start, end, fate, replaced, part_of, parts_of, Run, Divides, IsLawful, rule_of, unfixed}
@@ -225,15 +225,14 @@ pub empty : (n : ℕ) (b : Bool) → b ≡ (n == 0) → b ≡ true → n ≡ 0
 empty n b e f = eqb-true n 0 (sym e ∙ f)
 
 module _ {F : Type 0} (post : F → Bor Table → Bor Partial → ℕ → Type 0) (f : F) (Picks : List Part → ℕ → Type 0)
-    (d : Differences) (t : Table) (pool : List (List ℕ)) (table_is : table_of d ≡ t) (pool_is : pool_of d ≡ pool) (m : Machine) (ps : List Part) (ns : List ℕ)
-    (h : IsSearching d (Answered post f (table_of d)) Picks m ps ns) where
-  pub goes_on_in : (n : ℕ) → 0 < length ps → n ≡ length m.log.items → GoesOn t pool (Answered post f t) Picks n
-  goes_on_in n l e =
+    (d : Differences) (t : Table) (pool : List (List ℕ)) (table_is : table_of d ≡ t) (pool_is : pool_of d ≡ pool) where
+  pub goes_on_in : (n : ℕ) → GoesOn (table_of d) (pool_of d) (Answered post f (table_of d)) Picks n → GoesOn t pool (Answered post f t) Picks n
+  goes_on_in n h =
       subst (λ x. GoesOn x pool (Answered post f x) Picks n) table_is
-      (subst (λ x. GoesOn (table_of d) x (Answered post f (table_of d)) Picks n) pool_is
-      (goes_on d (Answered post f (table_of d)) Picks m ps ns n h l e))
+      (subst (λ x. GoesOn (table_of d) x (Answered post f (table_of d)) Picks n) pool_is h)
 
-  module _ (pre : F → Bor Table → Bor Partial → Type 0) (table : IsTable t) (zs : BeginsWithZeros pool) (rule : IsRule pre post f) (none : length ps ≡ 0) where
+  module _ (m : Machine) (h : IsEnded d (Answered post f (table_of d)) Picks m)
+      (pre : F → Bor Table → Bor Partial → Type 0) (table : IsTable t) (zs : BeginsWithZeros pool) (rule : IsRule pre post f) where
     table_of_it : IsTable (table_of d)
     table_of_it = subst IsTable (sym table_is) table
 
@@ -241,10 +240,10 @@ module _ {F : Type 0} (post : F → Bor Table → Bor Partial → ℕ → Type 0
     zeros_of_it = subst BeginsWithZeros (sym pool_is) zs
 
     pub over_in : length m.log.items < 2 ^ 32 → IsOver d m
-    over_in = is_over d (Answered post f (table_of d)) Picks m ps ns zeros_of_it table_of_it (lawful pre post f (table_of d) table_of_it rule) h none
+    over_in = is_over d (Answered post f (table_of d)) Picks m h.parts h.numbers zeros_of_it table_of_it (lawful pre post f (table_of d) table_of_it rule) h.searching h.none
 
     pub found_in : (found : Found) → IsCertified d m found → IsFound t pool (Answered post f t) Picks found
     found_in x c =
         subst (λ y. IsFound y pool (Answered post f y) Picks x) table_is
         (subst (λ y. IsFound (table_of d) y (Answered post f (table_of d)) Picks x) pool_is
-        (found d (Answered post f (table_of d)) Picks m ps ns zeros_of_it table_of_it (lawful pre post f (table_of d) table_of_it rule) h none x c))
+        (found d (Answered post f (table_of d)) Picks m h.parts h.numbers zeros_of_it table_of_it (lawful pre post f (table_of d) table_of_it rule) h.searching h.none x c))

@@ -125,3 +125,10 @@ pub record IsSearching (d : Differences) (Answers : Partial → ℕ → Type 0) 
   pub made : m.made ≡ state.made
   pub best : held_options m.best ≡ state.search.best
   pub known : EachNumbered (IsKnown d m.bounds.items) state.search.parts state.numbers
+
+-- the machine stands where no part is open
+pub record IsEnded (d : Differences) (Answers : Partial → ℕ → Type 0) (Picks : List Part → ℕ → Type 0) (m : Machine) : Type 0 where
+  pub parts : List Part
+  pub numbers : List ℕ
+  pub searching : IsSearching d Answers Picks m parts numbers
+  pub none : length parts ≡ 0

@@ -1,12 +1,13 @@
 //! The search that takes the first part of the least value, without a walk over the open parts.
-ghost use Rattle.std.specs.Prelude.{◌≡◌, ◌+◌, ◌≤◌, length, Some, IfOk, IsErrOf, OnOk};
+ghost use Rattle.std.specs.Prelude.{◌≡◌, ◌+◌, ◌<◌, ◌≤◌, length, Some, IfOk, IsErrOf, OnOk};
 ghost use Rattle.chisel_table.specs.Valid.{IsTable};
 ghost use Rattle.chisel_bound.specs.declared.bounds.TheConstants.{MAX_VECTORS};
+ghost use Rattle.chisel_bound.specs.Kept.{AreDifferences};
 ghost use Rattle.chisel_bound.specs.Pool.{BeginsWithZeros, IsPool};
 ghost use Rattle.chisel_search.specs.declared.found.SearchFault.TheVariants.{Nodes};
 ghost use Rattle.chisel_search.specs.BestFirst.{IsBestFirst};
 ghost use Rattle.chisel_search.specs.Found.{GoesOn, IsFound};
-ghost use Rattle.chisel_search.specs.Machine.{table_of};
+ghost use Rattle.chisel_search.specs.Machine.{IsEnded, pool_of, table_of};
 ghost use Rattle.chisel_search.specs.Rules.{Answered, IsFirstLeast, IsRule};
 ghost use Rattle.chisel_search.specs.Tournament.{winning_number};
 
@@ -42,16 +43,35 @@ pub fn search_best_first<'a, F: Fn(&Table, &Partial) -> u32>(
         → GoesOn t.now pool.now.vectors (Answered F.post rule.now t.now) IsFirstLeast nodes }
 {
     let differences = Differences::new(alloc, t, pool)?;
-    let mut machine = Machine::start(alloc, &differences)?;
-    let mut frontier = Frontier::start(alloc, &differences, &machine.bounds)?;
+    let machine = searched(alloc, &differences, rule, nodes)?;
+    Ok(certify(alloc, arena, &differences, machine)?)
+}
+
+// Takes parts until none is open.
+fn searched<F: Fn(&Table, &Partial) -> u32>(
+    alloc: Global,
+    differences: &Differences,
+    rule: &Rule<F>,
+    nodes: u32,
+) -> Result<Machine, SearchFault>
+    requires differences { AreDifferences differences.now }
+    requires some { 0 < length (pool_of differences.now) }
+    requires rule { IsRule F.pre F.post rule.now }
+    ensures ended { IfOk result
+        (IsEnded differences.now (Answered F.post rule.now (table_of differences.now)) IsFirstLeast) }
+    ensures visits { IfOk result (λ m. length m.log.items ≤ nodes) }
+    ensures nodes { IsErrOf result Nodes → GoesOn (table_of differences.now) (pool_of differences.now)
+        (Answered F.post rule.now (table_of differences.now)) IsFirstLeast nodes }
+{
+    let mut machine = Machine::start(alloc, differences)?;
+    let mut frontier = Frontier::start(alloc, differences, &machine.bounds)?;
     while let Some(number) = frontier.tournament.winner() {
         if machine.log.len() >= nodes as usize {
             return Err(SearchFault::Nodes);
         }
-        step(&differences, &mut machine, &mut frontier, rule, number)?;
+        step(differences, &mut machine, &mut frontier, rule, number)?;
     }
-    drop(frontier);
-    Ok(certify(alloc, arena, &differences, machine)?)
+    Ok(machine)
 }
 
 // Takes the part that wins, and puts its children in its place.

@@ -2,11 +2,12 @@
 ghost use Rattle.std.specs.Prelude.{◌≡◌, ◌+◌, ◌<◌, ◌≤◌, length, IfOk, IsErrOf, OnOk};
 ghost use Rattle.chisel_table.specs.Valid.{IsTable};
 ghost use Rattle.chisel_bound.specs.declared.bounds.TheConstants.{MAX_VECTORS};
+ghost use Rattle.chisel_bound.specs.Kept.{AreDifferences};
 ghost use Rattle.chisel_bound.specs.Pool.{BeginsWithZeros, IsPool};
 ghost use Rattle.chisel_search.specs.declared.found.SearchFault.TheVariants.{Nodes};
 ghost use Rattle.chisel_search.specs.Found.{GoesOn, IsFound};
 ghost use Rattle.chisel_search.specs.Rules.{Answered, IsPick, IsRule, Picked};
-ghost use Rattle.chisel_search.specs.Machine.{IsSearching, table_of};
+ghost use Rattle.chisel_search.specs.Machine.{IsEnded, IsSearching, pool_of, table_of};
 
 use crate::certify::certify;
 use crate::found::{Found, SearchFault};
@@ -45,15 +46,37 @@ pub fn search<'a, F: Fn(&Table, &Partial) -> u32, G: Fn(&[Part]) -> usize>(
         → GoesOn t.now pool.now.vectors (Answered F.post rule.now t.now) (Picked G.post pick.now) nodes }
 {
     let differences = Differences::new(alloc, t, pool)?;
-    let mut machine = Machine::start(alloc, &differences)?;
-    let mut open = Open::start(alloc, &differences, &machine.bounds)?;
+    let machine = searched(alloc, &differences, rule, pick, nodes)?;
+    Ok(certify(alloc, arena, &differences, machine)?)
+}
+
+// Takes parts until none is open.
+fn searched<F: Fn(&Table, &Partial) -> u32, G: Fn(&[Part]) -> usize>(
+    alloc: Global,
+    differences: &Differences,
+    rule: &Rule<F>,
+    pick: &Pick<G>,
+    nodes: u32,
+) -> Result<Machine, SearchFault>
+    requires differences { AreDifferences differences.now }
+    requires some { 0 < length (pool_of differences.now) }
+    requires rule { IsRule F.pre F.post rule.now }
+    requires pick { IsPick G.pre G.post pick.now }
+    ensures ended { IfOk result (IsEnded differences.now
+        (Answered F.post rule.now (table_of differences.now)) (Picked G.post pick.now)) }
+    ensures visits { IfOk result (λ m. length m.log.items ≤ nodes) }
+    ensures nodes { IsErrOf result Nodes → GoesOn (table_of differences.now) (pool_of differences.now)
+        (Answered F.post rule.now (table_of differences.now)) (Picked G.post pick.now) nodes }
+{
+    let mut machine = Machine::start(alloc, differences)?;
+    let mut open = Open::start(alloc, differences, &machine.bounds)?;
     while !open.is_empty() {
         if machine.log.len() >= nodes as usize {
             return Err(SearchFault::Nodes);
         }
-        step(&differences, &mut machine, &mut open, rule, pick)?;
+        step(differences, &mut machine, &mut open, rule, pick)?;
     }
-    Ok(certify(alloc, arena, &differences, machine)?)
+    Ok(machine)
 }
 
 // Takes a part, and puts its children in its place.

@@ -1,55 +1,24 @@
-use Rattle.std.proofs.Common.{◌≡◌, ap, sym, ◌∙◌, arith, length, Some, None}
-use Rattle.chisel_search.specs.Frontier.{parts_in}
-use Rattle.chisel_search.specs.Machine.{table_of}
-use Rattle.chisel_search.specs.Tournament.{numbers_in, winning_number}
-use Rattle.chisel_search.proofs.BestFirst.{best_begun, none_open, some_open}
+use Rattle.std.proofs.Common.{ap, arith}
+use Rattle.std.proofs.lemmas.Grind.{common_steps}
 use Rattle.chisel_search.proofs.Finding.{found_in, goes_on_in, over_in}
 use Rattle.chisel_search.proofs.best_first.search_best_first.Goals as goal
 
-pub loop-number-init : goal.loop-number-init
-loop-number-init g c =
-    let w = c.in_ok-machine.ensures in
-    let o = c.in_ok-frontier.ensures in
-    record {
-      searching = best_begun c.in_ok-differences.differences _ c.in_ok-machine.machine c.in_ok-frontier.frontier w.machine w.begun w.known o.tournament o.values o.numbers o.one o.origins;
-      few = let e = ap length w.begun.log in omega arith;
-    }
-
-pub returns-then-len-nodes-clause-nodes : goal.returns-then-len-nodes-clause-nodes
-returns-then-len-nodes-clause-nodes g c =
-    let i = c.loop-number.invariant in
-    let few = i.few in
-    let o = c.loop-number.machine.log.ok in
-    let n = c.len.ensures in
-    let l = c.if-len-nodes.true in
-    let f = c.loop-number.frontier in
-    let log = c.loop-number.machine.log.items in
-    let e : winning_number f.tournament ≡ Some c.in-Some.number = sym c.winner.ensures ∙ c.in-Some.is in
-    λ _. goes_on_in _ _ _ c.in_ok-differences.differences c.args.t.now c.args.pool.now.vectors
-    (ap (λ x. x.now) c.in_ok-differences.ensures.table) (ap (λ x. x.now.vectors) c.in_ok-differences.ensures.pool)
-    c.loop-number.machine (parts_in (table_of c.in_ok-differences.differences) log f) (numbers_in f.tournament) i.searching.searching c.args.nodes
-    (some_open _ _ _ _ i.searching c.in-Some.number e) (omega arith)
+pub returns-in_err-machine-clause-nodes : goal.returns-in_err-machine-clause-nodes
+returns-in_err-machine-clause-nodes g c =
+    λ e. goes_on_in _ _ _ c.in_ok-differences.differences c.args.t.now c.args.pool.now.vectors
+    (ap (λ x. x.now) c.in_ok-differences.ensures.table) (ap (λ x. x.now.vectors) c.in_ok-differences.ensures.pool) c.args.nodes
+    (c.in_err-machine.ensures.nodes (grind (arith, common_steps, e)))
 
 pub certify-requires : goal.certify-requires
 certify-requires g c =
-    let i = c.loop-number.invariant in
-    let few = i.few in
+    let few = c.in_ok-machine.ensures.visits in
     let r = c.ranges.nodes.fits in
-    let f = c.loop-number.frontier in
-    let log = c.loop-number.machine.log.items in
-    let e : winning_number f.tournament ≡ None = sym c.winner.ensures ∙ c.in_default.is in
     over_in _ _ _ c.in_ok-differences.differences c.args.t.now c.args.pool.now.vectors
     (ap (λ x. x.now) c.in_ok-differences.ensures.table) (ap (λ x. x.now.vectors) c.in_ok-differences.ensures.pool)
-    c.loop-number.machine (parts_in (table_of c.in_ok-differences.differences) log f) (numbers_in f.tournament) i.searching.searching _ c.requires.table c.requires.zeros c.requires.rule
-    (none_open _ _ _ _ i.searching e) (omega arith)
+    c.in_ok-machine.machine c.in_ok-machine.ensures.ended _ c.requires.table c.requires.zeros c.requires.rule (omega arith)
 
 pub returns-clause-found : goal.returns-clause-found
 returns-clause-found g c =
-    let i = c.loop-number.invariant in
-    let f = c.loop-number.frontier in
-    let log = c.loop-number.machine.log.items in
-    let e : winning_number f.tournament ≡ None = sym c.winner.ensures ∙ c.in_default.is in
     found_in _ _ _ c.in_ok-differences.differences c.args.t.now c.args.pool.now.vectors
     (ap (λ x. x.now) c.in_ok-differences.ensures.table) (ap (λ x. x.now.vectors) c.in_ok-differences.ensures.pool)
-    c.loop-number.machine (parts_in (table_of c.in_ok-differences.differences) log f) (numbers_in f.tournament) i.searching.searching _ c.requires.table c.requires.zeros c.requires.rule
-    (none_open _ _ _ _ i.searching e) c.in_ok-certify.field-0 c.in_ok-certify.ensures
+    c.in_ok-machine.machine c.in_ok-machine.ensures.ended _ c.requires.table c.requires.zeros c.requires.rule c.in_ok-certify.field-0 c.in_ok-certify.ensures

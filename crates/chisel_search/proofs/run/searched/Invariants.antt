@@ -1,7 +1,7 @@
 use Rattle.std.proofs.Common.{◌-◌, ◌≤◌, length}
 use Rattle.chisel_search.specs.Machine.{IsSearching, table_of}
 use Rattle.chisel_search.specs.Rules.{Answered, Picked}
-use Rattle.chisel_search.proofs.run.search.Given as goal
+use Rattle.chisel_search.proofs.run.searched.Given as goal
 
 abbrev pub invariant-loop-machine : goal.invariant-loop-machine
 invariant-loop-machine g l = record {

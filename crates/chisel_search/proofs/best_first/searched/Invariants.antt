@@ -2,7 +2,7 @@ use Rattle.std.proofs.Common.{◌-◌, ◌≤◌, length}
 use Rattle.chisel_search.specs.BestFirst.{IsBestFirst}
 use Rattle.chisel_search.specs.Machine.{table_of}
 use Rattle.chisel_search.specs.Rules.{Answered}
-use Rattle.chisel_search.proofs.best_first.search_best_first.Given as goal
+use Rattle.chisel_search.proofs.best_first.searched.Given as goal
 
 abbrev pub invariant-loop-number : goal.invariant-loop-number
 invariant-loop-number g l = record {
