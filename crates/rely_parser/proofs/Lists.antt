@@ -28,23 +28,26 @@ pub with_front-push : {A B : Type 0} (f : A → B) (xs : List A) (x : A) (o : Re
 with_front-push f xs x (Err e) = refl
 with_front-push f xs x (Ok y) = ap (λ b. Ok (b, y.1)) (front-push f xs x y.0)
 
-pub with_front-one : {A B : Type 0} (f : A → B) (x : A) (o : Reading (List B × State)) →
-    with_front f ([] ++ x ∷ []) o ≡ (o >>= λ y. Ok (f x ∷ y.0, y.1))
-with_front-one f x (Err e) = refl
-with_front-one f x (Ok y) = refl
+pub with_front-none : {A B : Type 0} (f : A → B) (o : Reading (List B × State)) → with_front f [] o ≡ o
+with_front-none f (Err e) = refl
+with_front-none f (Ok y) = refl
+
+pub front-last : {A B : Type 0} (f : A → B) (xs : List A) (x : A) → front f xs (f x ∷ []) ≡ map f (xs ++ x ∷ [])
+front-last f [] x = refl
+front-last f (y ∷ xs) x = ap (λ b. f y ∷ b) (front-last f xs x)
 
 pub list_of-end : {A : Type 0} (item : Read A) (s e : State) → skip_at 41 s ≡ Ok e → list_of item s ≡ Ok ([], e)
 unfolding list_of
 list_of-end item s e h = rw h refl
 
-pub list_of-none : {A : Type 0} (item : Read A) (s : State) (m e : ParseFault) → skip_at 41 s ≡ Err m → item s ≡ Err e → list_of item s ≡ Err e
-unfolding list_of
-list_of-none item s m e h i = rw (h, i) refl
+-- an element and what is behind it, where the tokens behind the element say how many may follow
+abbrev pub next_of : {A : Type 0} → Read A → (ℕ → ℕ) → Read (List A)
+next_of item f s = item s >>= λ x. more_of item (f (length x.1.toks)) x.1 >>= λ y. Ok (x.0 ∷ y.0, y.1)
 
-pub list_of-some : {A : Type 0} (item : Read A) (s : State) (m : ParseFault) (x : A) (r : State) → skip_at 41 s ≡ Err m → item s ≡ Ok (x, r) →
-    (more_of item (length r.toks + 1) r >>= λ y. Ok (x ∷ y.0, y.1)) ≡ list_of item s
+pub list_of-next : {A : Type 0} (item : Read A) (s : State) (m : ParseFault) → skip_at 41 s ≡ Err m →
+    next_of item (λ n. n + 1) s ≡ list_of item s
 unfolding list_of
-list_of-some item s m x r h i = rw (h, i) refl
+list_of-next item s m h = rw h refl
 
 pub more_of-end : {A : Type 0} (item : Read A) (n : ℕ) (s : State) (m : ParseFault) (e : State) → 0 < n → skip_at 44 s ≡ Err m → skip_at 41 s ≡ Ok e → more_of item n s ≡ Ok ([], e)
 unfolding more_of
@@ -56,16 +59,28 @@ unfolding more_of
 more_of-bad item zero s m e l h i = absurd (omega arith)
 more_of-bad item (suc n) s m e l h i = rw (more_of, h, i) refl
 
-pub more_of-none : {A : Type 0} (item : Read A) (n : ℕ) (s a : State) (e : ParseFault) → 0 < n → skip_at 44 s ≡ Ok a → item a ≡ Err e → more_of item n s ≡ Err e
+pub more_of-next : {A : Type 0} (item : Read A) (n : ℕ) (s a : State) → 0 < n → skip_at 44 s ≡ Ok a →
+    next_of item (λ _. n - 1) a ≡ more_of item n s
 unfolding more_of
-more_of-none item zero s a e l h i = absurd (omega arith)
-more_of-none item (suc n) s a e l h i = rw (more_of, h, i) refl
+more_of-next item zero s a l h = absurd (omega arith)
+more_of-next item (suc n) s a l h = let m : suc n - 1 ≡ n = omega arith in rw (m, more_of, h) refl
 
-pub more_of-more : {A : Type 0} (item : Read A) (n : ℕ) (s a : State) (x : A) (r : State) → 0 < n → skip_at 44 s ≡ Ok a → item a ≡ Ok (x, r) →
-    (more_of item (n - 1) r >>= λ y. Ok (x ∷ y.0, y.1)) ≡ more_of item n s
-unfolding more_of
-more_of-more item zero s a x r l h i = absurd (omega arith)
-more_of-more item (suc n) s a x r l h i = let m : suc n - 1 ≡ n = omega arith in rw (m, more_of, h, i) refl
+pub next_of-none : {A : Type 0} (item : Read A) (f : ℕ → ℕ) (s : State) (e : ParseFault) → item s ≡ Err e →
+    next_of item f s ≡ Err e
+next_of-none item f s e i = rw i refl
+
+pub next_of-end : {A : Type 0} (item : Read A) (f : ℕ → ℕ) (s : State) (x : A) (r : State) (m : ParseFault) (e : State) →
+    item s ≡ Ok (x, r) → 0 < f (length r.toks) → skip_at 44 r ≡ Err m → skip_at 41 r ≡ Ok e → next_of item f s ≡ Ok (x ∷ [], e)
+next_of-end item f s x r m e i l h j = rw (i, more_of-end item (f (length r.toks)) r m e l h j) refl
+
+pub next_of-bad : {A : Type 0} (item : Read A) (f : ℕ → ℕ) (s : State) (x : A) (r : State) (m e : ParseFault) →
+    item s ≡ Ok (x, r) → 0 < f (length r.toks) → skip_at 44 r ≡ Err m → skip_at 41 r ≡ Err e → next_of item f s ≡ Err e
+next_of-bad item f s x r m e i l h j = rw (i, more_of-bad item (f (length r.toks)) r m e l h j) refl
+
+pub next_of-more : {A : Type 0} (item : Read A) (f : ℕ → ℕ) (s : State) (x : A) (r a : State) →
+    item s ≡ Ok (x, r) → 0 < f (length r.toks) → skip_at 44 r ≡ Ok a →
+    (next_of item (λ _. f (length r.toks) - 1) a >>= λ y. Ok (x ∷ y.0, y.1)) ≡ next_of item f s
+next_of-more item f s x r a i l h = rw i (ap (λ o. o >>= λ y. Ok (x ∷ y.0, y.1)) (more_of-next item (f (length r.toks)) r a l h))
 
 pub args_at-zero : (text : Bytes) (d p : ℕ) (s : State) → d ≡ 0 → args_at text d p s ≡ Err (fault.Deep p)
 unfolding args_at

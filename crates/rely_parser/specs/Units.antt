@@ -98,6 +98,10 @@ locals_at text s = each_behind word.Var (local_at text) (length s.toks) s
 unfoldable pub last_at : Bytes → Span → Read StmtTree
 last_at text span s = expr_at text 63 s >>= λ x. skip_at 59 x.1 >>= λ a. skip_at 125 a >>= λ end. Ok (ReturnTree span x.0, end)
 
+-- the last statement of a body, which begins at s; behind its word are the tokens of a
+abbrev pub returned_at : Bytes → State → Read StmtTree
+returned_at text s a = first_at s >>= λ x. last_at text x.0.span a
+
 -- statements up to a return and the closing brace, at most n
 unfoldable pub body_of : Bytes → ℕ → Read Block
 body_of text zero s = Err (fault.Expected (place s))

@@ -86,19 +86,22 @@ pub(crate) fn params<'a, 't>(
     ensures shorter { IfOk result (λ r. length r.1.toks.now < length at.entry.toks.now) }
     ensures err { IfErr result (λ e. is_memory e ≡ false → list_of (decl_at text.now) (state_of at.entry) ≡ Err e) }
 {
-    let mut all = Vec::new(arena);
     if let Ok(after) = skip(at, b')') {
-        return Ok((into_bump_slice(all), after));
+        return Ok((&[], after));
     }
-    let (one, mut rest) = variable(text, at)?;
-    all.push(one)?;
-    while let Ok(after) = skip(rest, b',') {
-        let (one, after) = variable(text, after)?;
-        all.push(one)?;
-        rest = after;
+    let mut all = Vec::new(arena);
+    let mut rest = at;
+    loop {
+        let (one, after) = variable(text, rest)?;
+        let Ok(()) = all.push(one) else {
+            return Err(ParseFault::Memory);
+        };
+        let Ok(next) = skip(after, b',') else {
+            let end = skip(after, b')')?;
+            return Ok((into_bump_slice(all), end));
+        };
+        rest = next;
     }
-    let rest = skip(rest, b')')?;
-    Ok((into_bump_slice(all), rest))
 }
 
 /// A local variable behind its word.
@@ -143,19 +146,22 @@ fn needs<'a, 't>(
     ensures shorter { IfOk result (λ r. length r.1.toks.now < length at.entry.toks.now) }
     ensures err { IfErr result (λ e. is_memory e ≡ false → list_of (name_at text.now) (state_of at.entry) ≡ Err e) }
 {
-    let mut all = Vec::new(arena);
     if let Ok(after) = skip(at, b')') {
-        return Ok((into_bump_slice(all), after));
+        return Ok((&[], after));
     }
-    let (one, mut rest) = name(text, at)?;
-    all.push(one)?;
-    while let Ok(after) = skip(rest, b',') {
-        let (one, after) = name(text, after)?;
-        all.push(one)?;
-        rest = after;
+    let mut all = Vec::new(arena);
+    let mut rest = at;
+    loop {
+        let (one, after) = name(text, rest)?;
+        let Ok(()) = all.push(one) else {
+            return Err(ParseFault::Memory);
+        };
+        let Ok(next) = skip(after, b',') else {
+            let end = skip(after, b')')?;
+            return Ok((into_bump_slice(all), end));
+        };
+        rest = next;
     }
-    let rest = skip(rest, b')')?;
-    Ok((into_bump_slice(all), rest))
 }
 
 /// What a claim speaks of: the result or a variable.
@@ -234,26 +240,21 @@ pub(crate) fn claims<'a, 't>(
     ensures err { IfErr result (λ e. is_memory e ≡ false → claims_at text.now (state_of at.entry) ≡ Err e) }
 {
     let mut all = Vec::new(arena);
-    let start = skip_word(at, Word::Claim)?;
-    let (one, mut rest) = match claim(arena, text, start) {
-        Ok(read) => read,
-        Err(fault) => return Err(fault),
-    };
-    let Ok(()) = all.push(one) else {
-        return Err(ParseFault::Memory);
-    };
-    while let Ok(after) = skip_word(rest, Word::Claim) {
-        if all.len() >= MOST_CLAIMS {
-            return Err(ParseFault::Many(place(rest)));
-        }
-        let (one, after) = match claim(arena, text, after) {
+    let mut start = skip_word(at, Word::Claim)?;
+    loop {
+        let (one, rest) = match claim(arena, text, start) {
             Ok(read) => read,
             Err(fault) => return Err(fault),
         };
         let Ok(()) = all.push(one) else {
             return Err(ParseFault::Memory);
         };
-        rest = after;
+        let Ok(next) = skip_word(rest, Word::Claim) else {
+            return Ok((into_bump_slice(all), rest));
+        };
+        if all.len() >= MOST_CLAIMS {
+            return Err(ParseFault::Many(place(rest)));
+        }
+        start = next;
     }
-    Ok((into_bump_slice(all), rest))
 }

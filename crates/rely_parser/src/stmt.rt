@@ -3,7 +3,7 @@ ghost use Rattle.std.specs.Prelude.{◌≡◌, ◌<◌, ◌≤◌, ◌+◌, leng
 ghost use Rattle.rely_tree.specs.Shape.{ident_shape, expr_shape, stmt_shape, block_shape};
 ghost use Rattle.rely_parser.specs.State.{state_of, is_memory};
 ghost use Rattle.rely_parser.specs.Grammar.{expr_at};
-ghost use Rattle.rely_parser.specs.Statements.{one_call, list_of, call_at, set_at, assignment_at, condition_at, otherwise_at, if_at, while_at, repeat_at, items_at, block_at, stmt_at};
+ghost use Rattle.rely_parser.specs.Statements.{one_call, list_of, args_at, call_at, set_at, assignment_at, condition_at, otherwise_at, if_at, while_at, repeat_at, items_at, block_at, stmt_at};
 
 use crate::expr::{bracketed, expr};
 use crate::fault::ParseFault;
@@ -41,23 +41,47 @@ fn args<'a, 't>(
     ensures shorter { IfOk result (λ r. length r.1.toks.now < length at.entry.toks.now) }
     ensures err { IfErr result (λ e. is_memory e ≡ false → list_of (expr_at text.now deep) (state_of at.entry) ≡ Err e) }
 {
-    let mut all = Vec::new(arena);
     if let Ok(after) = skip(at, b')') {
-        return Ok((into_bump_slice(all), after));
+        return Ok((&[], after));
     }
-    let (one, mut rest) = expr(arena, text, at, deep)?;
-    all.push(one)?;
-    while let Ok(after) = skip(rest, b',') {
-        let (one, after) = expr(arena, text, after, deep)?;
-        all.push(one)?;
-        rest = after;
+    let mut all = Vec::new(arena);
+    let mut rest = at;
+    loop {
+        let (one, after) = expr(arena, text, rest, deep)?;
+        let Ok(()) = all.push(one) else {
+            return Err(ParseFault::Memory);
+        };
+        let Ok(next) = skip(after, b',') else {
+            let end = skip(after, b')')?;
+            return Ok((into_bump_slice(all), end));
+        };
+        rest = next;
     }
-    let rest = skip(rest, b')')?;
-    Ok((into_bump_slice(all), rest))
+}
+
+/// The arguments behind an open bracket at `place`, where `deep` brackets could be opened.
+#[tactic(auto, using(crate::proofs::Lists::lists))]
+fn arguments<'a, 't>(
+    arena: &'a Bump,
+    text: &'a [u8],
+    at: Rest<'t>,
+    deep: u32,
+    place: u32,
+) -> Result<(&'a [Expr<'a>], Rest<'t>), ParseFault>
+    ensures ok { IfOk result (λ r.
+        args_at text.now deep place (state_of at.entry) ≡ Ok (map expr_shape r.0.now, state_of r.1)) }
+    ensures shorter { IfOk result (λ r. length r.1.toks.now < length at.entry.toks.now) }
+    ensures err { IfErr result (λ e. is_memory e ≡ false →
+        args_at text.now deep place (state_of at.entry) ≡ Err e) }
+{
+    if deep == 0 {
+        return Err(ParseFault::Deep(place));
+    }
+    args(arena, text, at, deep - 1)
 }
 
 /// What is behind the word `call`, which stands at `word`.
-#[tactic(auto, using(rely_tree::proofs::Shapes::shapes, crate::proofs::Lists::lists), unfolding(crate::specs::Statements::call_at))]
+#[tactic(auto, using(rely_tree::proofs::Shapes::shapes), unfolding(crate::specs::Statements::call_at))]
 fn call<'a, 't>(
     arena: &'a Bump,
     text: &'a [u8],
@@ -74,10 +98,7 @@ fn call<'a, 't>(
     let (callee, rest) = name(text, rest)?;
     let bracket = place(rest);
     let rest = skip(rest, b'(')?;
-    if deep == 0 {
-        return Err(ParseFault::Deep(bracket));
-    }
-    let (args, rest) = args(arena, text, rest, deep - 1)?;
+    let (args, rest) = arguments(arena, text, rest, deep, bracket)?;
     let rest = skip(rest, b';')?;
     Ok((Stmt::Call(target.span, target, word, callee, args), rest))
 }
@@ -265,7 +286,9 @@ fn braced<'a, 't>(
             return Ok((into_bump_slice(all), after));
         }
         let (one, after) = stmt(arena, text, rest, deep)?;
-        all.push(one)?;
+        let Ok(()) = all.push(one) else {
+            return Err(ParseFault::Memory);
+        };
         rest = after;
     }
 }

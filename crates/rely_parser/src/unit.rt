@@ -8,7 +8,7 @@ ghost use Rattle.rely_tree.specs.Shape.{stmt_shape, block_shape, func_shape, uni
 ghost use Rattle.rely_parser.specs.State.{state_of, is_memory, end_of};
 ghost use Rattle.rely_parser.specs.Counts.{AllWithin, nothing};
 ghost use Rattle.rely_parser.specs.Productions.{NoUnit, Spelled, Refuses};
-ghost use Rattle.rely_parser.specs.Units.{last_at, body_at, function_at, functions_at, unit_of};
+ghost use Rattle.rely_parser.specs.Units.{last_at, returned_at, body_at, function_at, functions_at, unit_of};
 
 use crate::decl::{claims, locals, params};
 use crate::expr::expr;
@@ -52,6 +52,23 @@ fn last<'a, 't>(
     Ok((Stmt::Return(span, value), rest))
 }
 
+/// The last statement of a body, which begins at `at`; its word ends before `after`.
+fn returned<'a, 't>(
+    arena: &'a Bump,
+    text: &'a [u8],
+    at: Rest<'t>,
+    after: Rest<'t>,
+) -> Result<(Stmt<'a>, Rest<'t>), ParseFault>
+    ensures ok { IfOk result (λ r.
+        returned_at text.now (state_of at.entry) (state_of after.entry) ≡ Ok (stmt_shape r.0, state_of r.1)) }
+    ensures shorter { IfOk result (λ r. length r.1.toks.now < length after.entry.toks.now) }
+    ensures err { IfErr result (λ e. is_memory e ≡ false →
+        returned_at text.now (state_of at.entry) (state_of after.entry) ≡ Err e) }
+{
+    let (token, _) = first(at)?;
+    last(arena, text, after, token.span)
+}
+
 /// The statements of a body behind its variables.
 fn body<'a, 't>(
     arena: &'a Bump,
@@ -66,13 +83,16 @@ fn body<'a, 't>(
     let mut rest = at;
     loop {
         if let Ok(after) = skip_word(rest, Word::Return) {
-            let (token, _) = first(rest)?;
-            let (one, after) = last(arena, text, after, token.span)?;
-            all.push(one)?;
-            return Ok((into_bump_slice(all), after));
+            let (one, end) = returned(arena, text, rest, after)?;
+            let Ok(()) = all.push(one) else {
+                return Err(ParseFault::Memory);
+            };
+            return Ok((into_bump_slice(all), end));
         }
         let (one, after) = stmt(arena, text, rest, MOST_INSIDE)?;
-        all.push(one)?;
+        let Ok(()) = all.push(one) else {
+            return Err(ParseFault::Memory);
+        };
         rest = after;
     }
 }
@@ -122,18 +142,23 @@ fn functions<'a, 't>(
     ensures err { IfErr result (λ e. is_memory e ≡ false → functions_at text.now (state_of at.entry) ≡ Err e) }
 {
     let mut all = Vec::new(arena);
-    let start = skip_word(at, Word::Fn)?;
-    let (one, mut rest) = function(arena, text, start)?;
-    all.push(one)?;
-    while let Ok(after) = skip_word(rest, Word::Fn) {
+    let mut start = skip_word(at, Word::Fn)?;
+    loop {
+        let (one, rest) = match function(arena, text, start) {
+            Ok(read) => read,
+            Err(fault) => return Err(fault),
+        };
+        let Ok(()) = all.push(one) else {
+            return Err(ParseFault::Memory);
+        };
+        let Ok(next) = skip_word(rest, Word::Fn) else {
+            return Ok((into_bump_slice(all), rest));
+        };
         if all.len() >= MOST_FUNCTIONS {
             return Err(ParseFault::Many(place(rest)));
         }
-        let (one, after) = function(arena, text, after)?;
-        all.push(one)?;
-        rest = after;
+        start = next;
     }
-    Ok((into_bump_slice(all), rest))
 }
 
 /// The place behind a text.

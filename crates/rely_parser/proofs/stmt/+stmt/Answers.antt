@@ -25,7 +25,7 @@ braced-loop-after-preserved t c = record {
   fuel = c.loop-after.invariant.fuel - 1;
   enough = omega (arith, c.in_ok-one.ensures.shorter, c.loop-after.invariant.enough);
   same =
-      rw c.in_ok-push.ensures.items
+      rw c.in-Ok-push.ensures.items
       (with_stmts-push c.loop-after.all.items c.in_ok-one.one _
       ∙ ap (with_stmts c.loop-after.all.items) (items_at-more _ _ _ _ _ _ c.in_default.ensures.err (omega (arith, c.loop-after.invariant.enough)) c.in_ok-one.ensures.ok)
       ∙ c.loop-after.invariant.same);

@@ -1,20 +1,20 @@
-use Rattle.std.proofs.Common.{◌≡◌, ℕ, ◌<◌, length}
+use Rattle.std.proofs.Common.{◌≡◌, ℕ, ◌<◌, ◌≤◌, length}
 use Rattle.rely_tree.specs.Shape.{expr_shape}
 use Rattle.rely_parser.specs.State.{state_of}
 use Rattle.rely_parser.specs.Grammar.{expr_at}
-use Rattle.rely_parser.specs.Statements.{more_of, list_of}
-use Rattle.rely_parser.proofs.Lists.{with_front}
+use Rattle.rely_parser.specs.Statements.{list_of}
+use Rattle.rely_parser.proofs.Lists.{with_front, next_of}
 use Rattle.rely_parser.proofs.stmt.args.Given as goal
 
-abbrev pub invariant-loop-after : goal.invariant-loop-after
-invariant-loop-after l = record {
-  shorter : length l.rest.toks.now < length l.fn.at.toks.now;
-  fuel : ℕ;
-  enough : length l.rest.toks.now < fuel;
+abbrev pub invariant-loop-all : goal.invariant-loop-all
+invariant-loop-all l = record {
+  within : length l.rest.toks.now ≤ length l.fn.at.toks.now;
+  fuel : ℕ → ℕ;
+  enough : (n : ℕ) → n < length l.rest.toks.now → n < fuel n;
   same :
-      with_front expr_shape l.all.items (more_of (expr_at l.text l.deep) fuel (state_of l.rest))
+      with_front expr_shape l.all.items (next_of (expr_at l.text l.deep) fuel (state_of l.rest))
       ≡ list_of (expr_at l.text l.deep) (state_of l.fn.at);
 }
 
-abbrev pub decreases-loop-after : goal.decreases-loop-after
-decreases-loop-after l = length l.rest.toks.now
+abbrev pub decreases-loop-all : goal.decreases-loop-all
+decreases-loop-all l = length l.rest.toks.now
